@@ -1,0 +1,5 @@
+pub mod Digits
+pub mod Lines
+pub mod Listings
+pub mod Loadings
+pub mod Copies

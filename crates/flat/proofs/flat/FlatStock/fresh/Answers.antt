@@ -16,7 +16,7 @@ clear_marks-requires c =
     (omega arith, omega arith)
 
 pub invariant_of-stock : goal.invariant_of-stock
-invariant_of-stock c = (recounted c.over-stock.result.area c.clear_marks.new.area _ _ _ c.clear_marks.auto.area c.as_mut_slice.ensures.value c.as_mut_slice.ensures.len c.over-stock.result.count, tt)
+invariant_of-stock c = record { count = recounted c.over-stock.result.area c.clear_marks.new.area _ _ _ c.clear_marks.auto.area c.as_mut_slice.ensures.value c.as_mut_slice.ensures.len c.over-stock.result.count }
 
 unmarked_at : (n m s t : ℕ) (xs ys zs ws : List ℕ) → m ≡ n → s ≡ t → ys ≡ xs → ws ≡ zs → Unmarked m s ys zs → Unmarked n t xs ws
 unmarked_at n m s t xs ys zs ws em es ey ew u = rw (ew, ← em, ← es, ← ey) u

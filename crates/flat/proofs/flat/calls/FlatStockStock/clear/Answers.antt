@@ -17,7 +17,7 @@ base-base-requires c =
     rw s.count (rw slots_long at u.below)
 
 pub invariant_of-self : goal.invariant_of-self
-invariant_of-self c = (recounted c.args.self.now.area c.clear_slot.new.area _ _ _ c.clear_slot.auto.area c.as_mut_slice.ensures.value c.as_mut_slice.ensures.len c.args.self.now.count, tt)
+invariant_of-self c = record { count = recounted c.args.self.now.area c.clear_slot.new.area _ _ _ c.clear_slot.auto.area c.as_mut_slice.ensures.value c.as_mut_slice.ensures.len c.args.self.now.count }
 
 cleared_area : (n i base : ℕ) (xs was ws zs : List ℕ) → zs ≡ ws → ws ≡ set was base 0 → was ≡ xs → base ≡ i * (n + 1) → zs ≡ flat_clear n i xs
 cleared_area n i base xs was ws zs ez ew ex eb = ez ∙ (rw (ex, eb) at ew)

@@ -18,7 +18,7 @@ base-base-requires c =
     rw s.count (rw slots_long at u.0.below)
 
 pub invariant_of-self : goal.invariant_of-self
-invariant_of-self c = (recounted c.args.self.now.area c.fill_slot.new.area _ _ _ c.fill_slot.auto.area c.as_mut_slice.ensures.value c.as_mut_slice.ensures.len c.args.self.now.count, tt)
+invariant_of-self c = record { count = recounted c.args.self.now.area c.fill_slot.new.area _ _ _ c.fill_slot.auto.area c.as_mut_slice.ensures.value c.as_mut_slice.ensures.len c.args.self.now.count }
 
 filled_area : (n i base : ℕ) (bs xs was ws zs : List ℕ) → zs ≡ ws → ws ≡ set (written (base + 1) bs was) base 1 → was ≡ xs → base ≡ i * (n + 1) → zs ≡ flat_put n i bs xs
 filled_area n i base bs xs was ws zs ez ew ex eb = ez ∙ (rw (ex, eb) at ew)

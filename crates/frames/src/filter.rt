@@ -50,8 +50,8 @@ fn counted(answer: Result<u64, LineFault>) -> (u64, u8)
 
 // The listing of a stock, in an area that has room for a line of every slot.
 fn listed<St: Stock>(stock: &St, mut area: Vec<u8>) -> Vec<u8>
-    requires { length (held stock.now).slots * (10 + 2 * (held stock.now).frame) ≤ vec_len area }
-    ensures { result.items ≡ listing_of (held stock.now).slots }
+    requires { length (St.held stock.now).slots * (10 + 2 * (St.held stock.now).frame) ≤ vec_len area }
+    ensures { result.items ≡ listing_of (St.held stock.now).slots }
 {
     let Ok(bytes) = list_frames(stock, area.as_mut_slice()) else {
         unreachable()

@@ -16,11 +16,11 @@ pub fn copy_frames<St: Stock, R: Loadable>(
     area: &mut [u8],
     reel: &mut R,
 ) -> Result<u64, LineFault>
-    ensures answer { result ≡ (copied block (held stock.now) (book reel.old) (length area.old)).answer }
-    ensures book { book reel.new ≡ (copied block (held stock.now) (book reel.old) (length area.old)).after }
-    ensures area { area.new ≡ listing_area (held stock.now) area.old }
-    ensures over { ComesOver block (held stock.now) (book reel.old) (length area.old) (book reel.new) result }
-    ensures rest { rest reel.new ≡ rest reel.old }
+    ensures answer { result ≡ (copied R.block (St.held stock.now) (R.book reel.old) (length area.old)).answer }
+    ensures book { R.book reel.new ≡ (copied R.block (St.held stock.now) (R.book reel.old) (length area.old)).after }
+    ensures area { area.new ≡ listing_area (St.held stock.now) area.old }
+    ensures over { ComesOver R.block (St.held stock.now) (R.book reel.old) (length area.old) (R.book reel.new) result }
+    ensures rest { R.rest reel.new ≡ R.rest reel.old }
 {
     let end = list_frames(stock, area)?;
     load_listing(reel, &area[0..end])

@@ -18,10 +18,10 @@ fn load_line<R: Loadable>(
     low: u64,
     row: &mut [u8],
 ) -> Result<u64, LineCause>
-    requires { length row.old ≡ (book reel.old).held.frame }
-    ensures answer { result ≡ answered (decline block (book reel.old) low (ended_line text.now)) (address_in text.now) }
-    ensures book { book reel.new ≡ unless (decline block (book reel.old) low (ended_line text.now)) (after_line block (book reel.old) (ended_line text.now)) (book reel.old) }
-    ensures rest { rest reel.new ≡ rest reel.old }
+    requires { length row.old ≡ (R.book reel.old).held.frame }
+    ensures answer { result ≡ answered (decline R.block (R.book reel.old) low (ended_line text.now)) (address_in text.now) }
+    ensures book { R.book reel.new ≡ unless (decline R.block (R.book reel.old) low (ended_line text.now)) (after_line R.block (R.book reel.old) (ended_line text.now)) (R.book reel.old) }
+    ensures rest { R.rest reel.new ≡ R.rest reel.old }
     ensures small { IfOk result (λ a. a < 2 ^ 32) }
 {
     let address = read_line(text, low, row)?;
@@ -32,11 +32,11 @@ fn load_line<R: Loadable>(
 // Loads the lines of the text, and answers how many there are. Stops at the first line that is refused: by 11 to 13,
 // or by 5, 6 or 8 of the reel. The lines before it stay loaded, and nothing else has changed.
 pub fn load_listing<R: Loadable>(reel: &mut R, text: &[u8]) -> Result<u64, LineFault>
-    ensures answer { result ≡ (loaded block (book reel.old) text.now).answer }
-    ensures book { book reel.new ≡ (loaded block (book reel.old) text.now).after }
-    ensures loads { book reel.new ≡ after_lines block (book reel.old) (take (lines_loaded result) (lines text.now)) }
-    ensures first { FirstRefused block (book reel.old) (lines text.now) result }
-    ensures rest { rest reel.new ≡ rest reel.old }
+    ensures answer { result ≡ (loaded R.block (R.book reel.old) text.now).answer }
+    ensures book { R.book reel.new ≡ (loaded R.block (R.book reel.old) text.now).after }
+    ensures loads { R.book reel.new ≡ after_lines R.block (R.book reel.old) (take (lines_loaded result) (lines text.now)) }
+    ensures first { FirstRefused R.block (R.book reel.old) (lines text.now) result }
+    ensures rest { R.rest reel.new ≡ R.rest reel.old }
 {
     let mut row = [0u8; MOST];
     let frame_len = reel.frame_len();

@@ -1,5 +1,5 @@
 -- The book of a reel: what stands at each address, told by the calls and their arguments alone. Assumes nothing.
-use Rattle.std.specs.Prelude.{ℕ, ◌*◌, ◌%◌, Bool, true, cond, ◌&&◌, List, length, set, Some, None, Option, ◌==◌, nat_le, nat_lt, slice_set}
+use Rattle.std.specs.Prelude.{ℕ, ◌*◌, ◌%◌, Bool, true, cond, ◌&&◌, List, length, Some, None, Option, ◌==◌, nat_le, nat_lt, slice_set}
 use Rattle.std.specs.Option.{option_map}
 use Rattle.stock.specs.Refusals.{first, unless}
 use Rattle.stock.specs.Slots.{Slot, Contents, with_slots, slot_at, bytes_in, filled, blank}

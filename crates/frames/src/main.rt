@@ -1,4 +1,6 @@
 // Reads a listing from standard input, loads it into a small reel, and prints the reel's listing and how the loading ended.
+#![tactic(auto)]
+
 ghost use Rattle.std.specs.Prelude.{◌≤◌, length, IfOk};
 
 use filter::filter;

@@ -1,4 +1,6 @@
 // Every refusal of every layer. Each layer's fault is a type of its own, holds the fault below it whole, and tells one report.
+#![tactic(auto)]
+
 pub mod key;
 pub mod layer;
 pub mod line;

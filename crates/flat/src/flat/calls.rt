@@ -83,9 +83,9 @@ impl Stock for FlatStock {
 
     ghost framed = { λ s. slots_framed _ _ _ };
 
-    ghost low = { first_of (Prim.search rules, Prim.grind (arith, Self.row.coded.inj)) };
+    ghost low = { Prim.search rules };
 
-    ghost high = { first_of (Prim.search rules, Prim.grind (arith, Self.row.coded.inj)) };
+    ghost high = { Prim.search rules };
 
     ghost few = { λ s. rw slots_long (omega arith) };
 

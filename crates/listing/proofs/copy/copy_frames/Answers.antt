@@ -13,15 +13,15 @@ returns g c =
     let to : Book = g.R.Loadable.book c.args.reel.now in
     let area : List ℕ = c.args.area.now in
     let l : Listed = listing_in from.slots (length area) in
-    let o = ok_answers _ _ _ c.in-ok-end.ensures.answer in
-    let p : take (c.in-ok-end.end - 0) c.list-frames.new.area ≡ l.text = front_read l.text area c.list-frames.new.area c.in-ok-end.end o.1 c.list-frames.ensures.area in
+    let o = ok_answers _ _ _ c.in_ok-end.ensures.answer in
+    let p : take (c.in_ok-end.end - 0) c.list_frames.new.area ≡ l.text = front_read l.text area c.list_frames.new.area c.in_ok-end.end o.1 c.list_frames.ensures.area in
     let e = copied_is g.R.Loadable.block to l _ o.0 p in
     record {
-      answer = c.load-listing.ensures.answer ∙ ap (λ (z : Loading). z.answer) (sym e);
-      book = c.load-listing.ensures.book ∙ ap (λ (z : Loading). z.after) (sym e);
-      area = c.list-frames.ensures.area;
-      rest = c.load-listing.ensures.rest;
+      answer = c.load_listing.ensures.answer ∙ ap (λ (z : Loading). z.answer) (sym e);
+      book = c.load_listing.ensures.book ∙ ap (λ (z : Loading). z.after) (sym e);
+      area = c.list_frames.ensures.area;
+      rest = c.load_listing.ensures.rest;
       over = λ wh et ef.
-          let a = over_all g.R.Loadable.block from to (length area) _ (g.met.St.Stock.framed c.args.stock.now) c.in-ok-end.ensures.bytes (g.met.St.Stock.few c.args.stock.now) p wh et ef in
-          (c.load-listing.ensures.book ∙ ap (λ (z : Loading). z.after) a, c.load-listing.ensures.answer ∙ ap (λ (z : Loading). z.answer) a);
+          let a = over_all g.R.Loadable.block from to (length area) _ (g.met.St.Stock.framed c.args.stock.now) c.in_ok-end.ensures.bytes (g.met.St.Stock.few c.args.stock.now) p wh et ef in
+          (c.load_listing.ensures.book ∙ ap (λ (z : Loading). z.after) a, c.load_listing.ensures.answer ∙ ap (λ (z : Loading). z.answer) a);
     }

@@ -7,22 +7,22 @@ use Rattle.listing.proofs.digit.read_row.Goals as goal
 sum_is : (a b x y : ℕ) → a ≡ x → b ≡ y → a * 16 + b ≡ x * 16 + y
 sum_is a b x y e f = rw (e, f)
 
-pub returns-then-not-is-digit : goal.returns-then-not-is-digit
-returns-then-not-is-digit c =
+pub returns-then-not-is_digit : goal.returns-then-not-is_digit
+returns-then-not-is_digit c =
     let h : 2 * c.loop-i.i + 1 < length c.args.text.now = omega arith in
-    record { told = sym (hex_no c.args.text.now c.loop-i.i h (sym c.if-not-is-digit.ensures)) ∙ c.loop-i.invariant.0; row = λ e. absurd (let k : ◌≡◌ {A = ℕ} 0 1 = cc in omega arith) }
+    record { told = sym (hex_no c.args.text.now c.loop-i.i h (sym c.if-not-is_digit.ensures)) ∙ c.loop-i.invariant.0; row = λ e. absurd (let k : ◌≡◌ {A = ℕ} 0 1 = cc in omega arith) }
 
-pub returns-then-not-is-digit-2 : goal.returns-then-not-is-digit-2
-returns-then-not-is-digit-2 c =
+pub returns-then-not-is_digit-2 : goal.returns-then-not-is_digit-2
+returns-then-not-is_digit-2 c =
     let h : 2 * c.loop-i.i + 1 < length c.args.text.now = omega arith in
-    record { told = sym (hex_no_low c.args.text.now c.loop-i.i h (sym c.if-not-is-digit.ensures) (sym c.if-not-is-digit-2.ensures)) ∙ c.loop-i.invariant.0; row = λ e. absurd (let k : ◌≡◌ {A = ℕ} 0 1 = cc in omega arith) }
+    record { told = sym (hex_no_low c.args.text.now c.loop-i.i h (sym c.if-not-is_digit.ensures) (sym c.if-not-is_digit-2.ensures)) ∙ c.loop-i.invariant.0; row = λ e. absurd (let k : ◌≡◌ {A = ℕ} 0 1 = cc in omega arith) }
 
 pub loop-i-preserved : goal.loop-i-preserved
 loop-i-preserved c =
     let h : 2 * c.loop-i.i + 1 < length c.args.text.now = omega arith in
     let l : c.loop-i.i < length c.loop-i.row = (let k = c.loop-i.auto.row in omega arith) in
     let x = sum_is _ _ _ _ c.value.ensures.value c.value-in-loop-i.ensures.value in (
-      hex_more c.args.text.now c.loop-i.i h (sym c.if-not-is-digit.ensures) (sym c.if-not-is-digit-2.ensures) ∙ c.loop-i.invariant.0,
+      hex_more c.args.text.now c.loop-i.i h (sym c.if-not-is_digit.ensures) (sym c.if-not-is_digit-2.ensures) ∙ c.loop-i.invariant.0,
       read_more c.args.text.now c.loop-i.i h _ _ _ l x c.loop-i.invariant.1,
     )
 

@@ -27,8 +27,8 @@ filled_up xs h b n m lx lh lb em =
 
 pub returns : goal.returns
 returns c =
-    let a : c.write-row.new.out ≡ digits_of (address_bytes c.args.address) = c.write-row.ensures ∙ ap digits_of c.bytes-of.ensures in
-    let b = c.write-row-2.ensures in
-    let lh : length c.write-row.new.out ≡ 8 = ap length a ∙ length_address c.args.address in
-    let lb : length c.write-row-2.new.out ≡ 2 * length c.args.frame.now = ap length b ∙ length_digits c.args.frame.now in
-    record { line = filled_up c.args.out.now _ _ (2 * length c.args.frame.now) _ c.requires lh lb refl ∙ (ap (λ z. z ++ (32 ∷ (c.write-row-2.new.out ++ 10 ∷ []))) a ∙ ap (λ z. digits_of (address_bytes c.args.address) ++ (32 ∷ (z ++ 10 ∷ []))) b); bytes = λ k. (c.type-inv.frame k).fits }
+    let a : c.write_row.new.out ≡ digits_of (address_bytes c.args.address) = c.write_row.ensures ∙ ap digits_of c.bytes_of.ensures in
+    let b = c.write_row-2.ensures in
+    let lh : length c.write_row.new.out ≡ 8 = ap length a ∙ length_address c.args.address in
+    let lb : length c.write_row-2.new.out ≡ 2 * length c.args.frame.now = ap length b ∙ length_digits c.args.frame.now in
+    record { line = filled_up c.args.out.now _ _ (2 * length c.args.frame.now) _ c.requires lh lb refl ∙ (ap (λ z. z ++ (32 ∷ (c.write_row-2.new.out ++ 10 ∷ []))) a ∙ ap (λ z. digits_of (address_bytes c.args.address) ++ (32 ∷ (z ++ 10 ∷ []))) b); bytes = λ k. (c.type_inv.frame k).fits }

@@ -10,12 +10,12 @@ use Rattle.listing.proofs.Writes.{sofar_more, sofar_full, sofar_all, front_of, l
 use Rattle.listing.proofs.Room.{whole_lines, room_for_all}
 use Rattle.listing.proofs.list.list_frames.Goals as goal
 
-pub loop-slot-preserved-in-default : goal.loop-slot-preserved-in-default
-loop-slot-preserved-in-default g c =
+pub loop-slot-preserved-in_default : goal.loop-slot-preserved-in_default
+loop-slot-preserved-in_default g c =
     let h : Contents = g.St.Stock.held c.args.stock.now in
     let i : ℕ = c.loop-slot.slot in
     let lt : i < length h.slots = omega arith in
-    let ne : condition_of (slot_at h i) ≡ Filled → ⊥ = λ e. c.in-default.not-Filled (c.condition.ensures ∙ (seen h i lt ∙ e)) in (
+    let ne : condition_of (slot_at h i) ≡ Filled → ⊥ = λ e. c.in_default.not-Filled (c.condition.ensures ∙ (seen h i lt ∙ e)) in (
       sofar_at _ _ _ _ _ _ _ (lines_skip h.slots i lt ne) c.loop-slot.invariant.0,
       c.loop-slot.invariant.1,
       below_more _ _ c.loop-slot.invariant.2 (no_bytes (slot_at h i) ne),
@@ -25,20 +25,20 @@ pub loop-slot-preserved : goal.loop-slot-preserved
 loop-slot-preserved g c =
     let h : Contents = g.St.Stock.held c.args.stock.now in
     let i : ℕ = c.loop-slot.slot in
-    let n : ℕ = c.frame-len-frame-len.result in
+    let n : ℕ = c.frame_len-frame_len.result in
     let at : ℕ = c.loop-slot.at in
     let lt : i < length h.slots = omega arith in
     let full : condition_of (slot_at h i) ≡ Filled = sym (seen h i lt) ∙ (sym c.condition.ensures ∙ c.in-Filled.is) in
     let lf = framed_filled (slot_at h i) h.frame (g.met.St.Stock.framed c.args.stock.now i lt) full in
-    let lw : length (line_for i (bytes_in (slot_at h i))) ≡ 10 + 2 * n = (let l = length_line i (bytes_in (slot_at h i)) in let q = c.frame-len-frame-len.ensures in omega arith) in
+    let lw : length (line_for i (bytes_in (slot_at h i))) ≡ 10 + 2 * n = (let l = length_line i (bytes_in (slot_at h i)) in let q = c.frame_len-frame_len.ensures in omega arith) in
     let so = sofar_at _ _ _ _ _ _ _ (lines_next h.slots i lt full) c.loop-slot.invariant.0 in
     let room : at + (10 + 2 * n) ≤ length c.args.area.now = (let k = c.loop-slot.auto.area in let w = c.loop-slot.invariant.0.within in let r = c.if-area-at.false in omega arith) in
     let em : at + (10 + 2 * n) - at ≡ 10 + 2 * n = omega arith in
     let hi = g.met.St.Stock.high c.args.stock.now in
-    let nr : n ≤ length c.loop-slot.row = (let z = c.loop-slot.invariant.1 in let q = c.frame-len-frame-len.ensures in omega arith) in (
-      sofar_more _ _ _ at _ _ _ so (10 + 2 * n) (at + (10 + 2 * n)) _ c.write-slot.new.out c.write-slot.ensures.out lw (omega arith) refl em room,
-      row_long c.write-slot.new.row c.loop-slot.row n nr c.write-slot.auto.row ∙ c.loop-slot.invariant.1,
-      below_more _ _ c.loop-slot.invariant.2 c.write-slot.ensures.bytes,
+    let nr : n ≤ length c.loop-slot.row = (let z = c.loop-slot.invariant.1 in let q = c.frame_len-frame_len.ensures in omega arith) in (
+      sofar_more _ _ _ at _ _ _ so (10 + 2 * n) (at + (10 + 2 * n)) _ c.write_slot.new.out c.write_slot.ensures.out lw (omega arith) refl em room,
+      row_long c.write_slot.new.row c.loop-slot.row n nr c.write_slot.auto.row ∙ c.loop-slot.invariant.1,
+      below_more _ _ c.loop-slot.invariant.2 c.write_slot.ensures.bytes,
     )
 
 pub returns-then-area-at : goal.returns-then-area-at
@@ -49,7 +49,7 @@ returns-then-area-at g c =
     let full : condition_of (slot_at h i) ≡ Filled = sym (seen h i lt) ∙ (sym c.condition.ensures ∙ c.in-Filled.is) in
     let lf = framed_filled (slot_at h i) h.frame (g.met.St.Stock.framed c.args.stock.now i lt) full in
     let l = length_line i (bytes_in (slot_at h i)) in
-    let q = c.frame-len-frame-len.ensures in
+    let q = c.frame_len-frame_len.ensures in
     let k = c.loop-slot.auto.area in
     let so = sofar_at _ _ _ _ _ _ _ (lines_next h.slots i lt full) c.loop-slot.invariant.0 in
     let e = sofar_full _ _ _ _ _ _ _ so (omega arith) in

@@ -6,8 +6,8 @@ use Rattle.reel.proofs.reel.LockedReel.erase.Goals as goal
 pub returns : goal.returns
 returns g c =
     record {
-      answer = c.erase-slot.ensures.answer;
-      book = c.erase-slot.ensures.book;
-      only = erase_only g.Su.Suite.block (locked_book g.St.Stock.held c.args.self.now) c.args.address _ c.erase-slot.ensures.book;
+      answer = c.erase_slot.ensures.answer;
+      book = c.erase_slot.ensures.book;
+      only = erase_only g.Su.Suite.block (locked_book g.St.Stock.held c.args.self.now) c.args.address _ c.erase_slot.ensures.book;
       suite = refl;
     }

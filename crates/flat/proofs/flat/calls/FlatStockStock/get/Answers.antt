@@ -12,7 +12,7 @@ use Rattle.flat.proofs.flat.calls.FlatStockStock.get.Goals as goal
 pub base-base-requires : goal.base-base-requires
 base-base-requires c =
     let s = c.args.self.now in
-    let o = (ok_answers _ _ _ c.in-ok-allows-get.ensures).0 in
+    let o = (ok_answers _ _ _ c.in_ok-allows_get.ensures).0 in
     let u = get_allowed (flat_held s) c.args.slot c.condition.result _ c.condition.ensures o in
     rw s.count (rw slots_long at u.0.below)
 
@@ -25,10 +25,10 @@ returns c =
     let n : ℕ = s.size.bytes in
     let i : ℕ = c.args.slot in
     let row = c.args.area.now in
-    let o = (ok_answers _ _ _ c.in-ok-allows-get.ensures).0 in
+    let o = (ok_answers _ _ _ c.in_ok-allows_get.ensures).0 in
     let u = get_allowed (flat_held s) i c.condition.result _ c.condition.ensures o in
     let h : i < flat_count n (length (vec_items s.area)) = rw slots_long at u.0.below in
     let e : get_fault (flat_held s) i (length row) ≡ None = rw (c.condition.ensures, c.get.ensures) at o in
     let l : length row ≡ n = eqb-true _ _ u.1 ∙ c.get.ensures in
-    let g = got_row n i c.base-base.result row (vec_items s.area) _ _ _ c.base-base.ensures.value l c.as-slice.ensures.value c.read-slot.ensures (body_is _ _ _ _ i h _ u.0.full) in
+    let g = got_row n i c.base-base.result row (vec_items s.area) _ _ _ c.base-base.ensures.value l c.as_slice.ensures.value c.read_slot.ensures (body_is _ _ _ _ i h _ u.0.full) in
     record { answer = rw e; area = g ∙ sym (through _ _ _ e ∙ ap bytes_in u.0.full) }

@@ -4,4 +4,4 @@
 #[cfg(test)]
 mod ciphers;
 #[cfg(test)]
-mod suites;
+mod two_suites;

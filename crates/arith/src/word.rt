@@ -40,15 +40,15 @@ pub trait Word: Copy {
 
 // The sum, with `left` added where the lowest bit of `right` is 1.
 fn add_if_odd<W: Word>(sum: W, left: W, right: W) -> W
-    ensures { value result ≡ bit_xor (value sum) (pick 0 (value right % 2) (value left)) }
+    ensures { W.value result ≡ bit_xor (W.value sum) (pick 0 (W.value right % 2) (W.value left)) }
 {
     sum.add(left.if_odd(right))
 }
 
 // The product of two words: the sum of `a` doubled i times, over every power i whose bit in `b` is 1.
 pub fn multiply<W: Word>(a: W, b: W) -> W
-    ensures value { value result ≡ product bits constant (value a) (value b) }
-    ensures field { Field bits constant }
+    ensures value { W.value result ≡ product W.bits W.constant (W.value a) (W.value b) }
+    ensures field { Field W.bits W.constant }
 {
     let mut sum = W::zero();
     let mut left = a;

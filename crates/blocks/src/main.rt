@@ -1,5 +1,7 @@
 // Shows both suites at work: which keys each refuses, and what it makes of blocks under keys that it accepts. With a number as
 // its argument it makes so many products instead, for timing.
+#![tactic(auto)]
+
 use ciphersuite::keys::make_again;
 use ciphersuite::suite::CipherSuite;
 use std::alloc::{AllocError, Global};

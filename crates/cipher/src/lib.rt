@@ -1,4 +1,6 @@
 // Two block ciphers, encryption only: AES (FIPS 197) and Speck64/128.
+#![tactic(auto)]
+
 pub mod aes;
 pub mod sbox;
 pub mod speck;

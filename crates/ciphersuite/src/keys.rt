@@ -34,7 +34,7 @@ pub fn check_hash_key(block_len: usize, hash_key: &[u8]) -> Result<(), KeyFault>
 
 // Keys made again from the bytes that accepted keys tell: they tell the same.
 pub fn make_again<S: CipherSuite>(keys: &S::Keys) -> S::Keys
-    ensures { CameFrom meaning (meaning.cipher_key keys.now) (meaning.hash_key keys.now) result }
+    ensures { CameFrom S.meaning (S.meaning.cipher_key keys.now) (S.meaning.hash_key keys.now) result }
 {
     let cipher_key = S::cipher_key_bytes(keys);
     let hash_key = S::hash_key_bytes(keys);

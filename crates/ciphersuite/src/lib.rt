@@ -1,4 +1,6 @@
 // Suites: what sectors are sealed with. A suite is a block length, an arithmetic on blocks, and a cipher.
+#![tactic(auto)]
+
 pub mod key_bytes;
 pub mod keys;
 pub mod suite;

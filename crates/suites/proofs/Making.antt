@@ -1,11 +1,11 @@
 -- Making keys: what is known where nothing is refused, and the answer for it, for both suites. Assumes nothing.
-use Rattle.std.proofs.Common.{◌≡◌, ℕ, Bool, true, false, cond, eqb, List, length, Some, None, Ok, Err, Option, sym, refl, ap, ◌∙◌, subst, arith}
+use Rattle.std.proofs.Common.{◌≡◌, ℕ, Bool, true, false, cond, eqb, List, length, Some, None, Ok, Err, sym, refl, ap, ◌∙◌, subst, arith}
 use Rattle.std.proofs.lemmas.Bool.{eqb-true}
-use Rattle.arith.specs.Rows.{Bytes, Row, fitted, zeros}
+use Rattle.arith.specs.Rows.{Bytes, fitted, zeros}
 use Rattle.arith.proofs.Places.{fitted_same}
 use Rattle.stock.specs.Refusals.{Answers}
 use Rattle.fault.specs.declared.key.KeyFault.{KeyFault}
-use Rattle.fault.specs.declared.key.KeyFault.TheVariants.{CipherKeyLength, HashKeyLength, ZeroHashKey}
+use Rattle.fault.specs.declared.key.KeyFault.TheVariants.{HashKeyLength, ZeroHashKey}
 use Rattle.ciphersuite.specs.Meaning.{Meaning}
 use Rattle.ciphersuite.specs.Keys.{hash_fault, key_fault, CameFrom}
 

@@ -44,12 +44,12 @@ module _ (n : ℕ) where
 
   abbrev pub over : {c : ℕ} → 8 ≤ n → n ≤ 32 → Field (8 * n) c → {B K : Type 0} → (B → ℕ) →
       (takes : ℕ → Bool) (cipher : List ℕ → List ℕ → List ℕ) → Cipher n takes cipher → Telling n takes K → Meaning B K
-  over low high f number_of_lem takes cipher good keys = record {
+  over low high f number_of takes cipher good keys = record {
     size = n;
     low = low;
     high = high;
     elem = Elem (8 * n);
-    means = λ b. at n (number_of_lem b);
+    means = λ b. at n (number_of b);
     field = f.domain;
     row = λ e. bytes_of n e.0;
     reads = read_at n;

@@ -1,6 +1,6 @@
 -- The short suite: words of eight bytes, the field of 2 ^ 64 elements, and Speck64/128. Assumes nothing.
-use Rattle.std.proofs.Common.{ap, ◌∙◌, arith, lit≤}
-use Rattle.std.specs.Prelude.{ℕ, length}
+use Rattle.std.proofs.Common.{ap, arith, lit≤}
+use Rattle.std.specs.Prelude.{ℕ}
 use Rattle.std.proofs.lemmas.Bool.{eqb-true}
 use Rattle.arith.specs.Fields.{field64}
 use Rattle.cipher.specs.Speck.{speck, speck_takes}

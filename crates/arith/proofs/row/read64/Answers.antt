@@ -5,7 +5,7 @@ use Rattle.arith.proofs.row.read64.Goals as goal
 
 pub returns : goal.returns
 returns c =
-    let e : c.from-be-bytes.result ≡ number_from_digits 256 (reads c.args.row 0 8) = omega (arith, c.from-be-bytes.ensures) in
+    let e : c.from_be_bytes.result ≡ number_from_digits 256 (reads c.args.row 0 8) = omega (arith, c.from_be_bytes.ensures) in
     let f = e ∙ by_bytes 8 c.args.row (omega arith) in
-    let l : number_from_digits 256 c.args.row < 2 ^ 64 = omega (arith, c.from-be-bytes.type-inv) in
+    let l : number_from_digits 256 c.args.row < 2 ^ 64 = omega (arith, c.from_be_bytes.type_inv) in
     f ∙ sym (mod-eq_of_lt l)

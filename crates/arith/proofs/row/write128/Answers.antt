@@ -1,7 +1,7 @@
-use Rattle.std.proofs.Common.{◌≡◌, ap, ◌∙◌, div-one}
+use Rattle.std.proofs.Common.{◌∙◌, div-one}
 use Rattle.arith.specs.Rows.{bytes_of}
 use Rattle.arith.proofs.row.write128.Goals as goal
 
 pub returns : goal.returns
 unfolding bytes_of
-returns c = c.to-be-bytes.ensures ∙ rw div-one
+returns c = c.to_be_bytes.ensures ∙ rw div-one

@@ -5,15 +5,15 @@ use Rattle.cipher.proofs.AesRounds.{taken_lengths}
 use Rattle.arith.proofs.Places.{take_fitted}
 use Rattle.cipher.proofs.aes.Aes.new.Goals as goal
 
-pub invariant-of-result : goal.invariant-of-result
-invariant-of-result c =
+pub invariant_of-result : goal.invariant_of-result
+invariant_of-result c =
     let key = c.args.key.now in
     let t : aes_takes (length key) ≡ true = cc in
-    let b : Bytes key = λ k. (c.type-inv.key k).fits in
+    let b : Bytes key = λ k. (c.type_inv.key k).fits in
     let p = taken_lengths (length key) t in
     let f = take_fitted 32 key (omega arith) in
     let e : take (length key) c.fit.new.row ≡ key = cc in
-    (ap length e, (rw e t, (rw e b, (rw e c.key-expansion.ensures, tt))))
+    record { within = ap length e; taken = rw e t; bytes = rw e b; made = rw e c.key_expansion.ensures }
 
 pub returns : goal.returns
 returns c =

@@ -8,4 +8,4 @@ unfolding rcon
 loop-i-init c = refl
 
 pub loop-i-preserved : goal.loop-i-preserved
-loop-i-preserved c = let e = rcon_more c.loop-i.-i in cc
+loop-i-preserved c = let e = rcon_more c.loop-i._i in cc

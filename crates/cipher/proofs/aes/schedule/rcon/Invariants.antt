@@ -3,4 +3,4 @@ use Rattle.cipher.specs.Schedule.{rcon}
 use Rattle.cipher.proofs.aes.schedule.rcon.Given as goal
 
 abbrev pub invariant-loop-i : goal.invariant-loop-i
-invariant-loop-i l = l.c ≡ rcon l.-i
+invariant-loop-i l = l.c ≡ rcon l._i

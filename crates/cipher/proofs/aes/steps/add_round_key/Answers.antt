@@ -4,7 +4,7 @@ use Rattle.arith.proofs.Places.{filled_more, filled_all}
 use Rattle.cipher.proofs.aes.steps.add_round_key.Goals as goal
 
 pub loop-i-preserved : goal.loop-i-preserved
-loop-i-preserved c = filled_more 16 (keyed_at c.args.w.now c.args.r c.args.s.now) c.loop-i.i c.loop-i.out _ (omega arith) c.key-at.ensures c.loop-i.invariant
+loop-i-preserved c = filled_more 16 (keyed_at c.args.w.now c.args.r c.args.s.now) c.loop-i.i c.loop-i.out _ (omega arith) c.key_at.ensures c.loop-i.invariant
 
 pub returns : goal.returns
 unfolding add_round_key

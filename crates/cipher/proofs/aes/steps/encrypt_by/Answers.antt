@@ -5,7 +5,7 @@ use Rattle.cipher.proofs.aes.steps.encrypt_by.Goals as goal
 
 pub loop-r-init : goal.loop-r-init
 unfolding after
-loop-r-init c = c.add-round-key-s.ensures
+loop-r-init c = c.add_round_key-s.ensures
 
 pub loop-r-preserved : goal.loop-r-preserved
 loop-r-preserved c =

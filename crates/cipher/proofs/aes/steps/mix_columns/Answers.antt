@@ -4,7 +4,7 @@ use Rattle.arith.proofs.Places.{filled_more, filled_all}
 use Rattle.cipher.proofs.aes.steps.mix_columns.Goals as goal
 
 pub loop-i-preserved : goal.loop-i-preserved
-loop-i-preserved c = filled_more 16 (mixed_at c.args.s.now) c.loop-i.i c.loop-i.out _ (omega arith) c.mix-at.ensures c.loop-i.invariant
+loop-i-preserved c = filled_more 16 (mixed_at c.args.s.now) c.loop-i.i c.loop-i.out _ (omega arith) c.mix_at.ensures c.loop-i.invariant
 
 pub returns : goal.returns
 unfolding mix_columns

@@ -1,4 +1,4 @@
-use Rattle.std.proofs.Common.{◌≡◌, take, ap, ◌∙◌, arith}
+use Rattle.std.proofs.Common.{take, ap, ◌∙◌, arith}
 use native.Mathlib.Nat.{sub-zero}
 use Rattle.ciphersuite.proofs.Told.{take_cut}
 use Rattle.ciphersuite.proofs.key_bytes.KeyBytes.as_slice.Goals as goal

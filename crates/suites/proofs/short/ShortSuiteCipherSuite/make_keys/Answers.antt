@@ -1,4 +1,3 @@
-use Rattle.std.proofs.Common.{◌≡◌, ◌∙◌}
 use Rattle.std.proofs.lemmas.Result.{err_from_is_err_and}
 use Rattle.stock.proofs.Allowed.{ok_answers, err_answers}
 use Rattle.suites.specs.Short.{short}
@@ -7,20 +6,20 @@ use Rattle.suites.proofs.short.ShortSuiteCipherSuite.make_keys.Goals as goal
 
 kept : (c : goal.After-eight-hash) → KeptHash 8 c.args.hash_key.now c.eight-hash.result
 kept c =
-    let e = (ok_answers _ _ _ c.in-ok-check-hash-key.ensures).0 in
+    let e = (ok_answers _ _ _ c.in_ok-check_hash_key.ensures).0 in
     kept_hash 8 c.args.hash_key.now _ e c.eight-hash.ensures.bytes c.eight-hash.ensures.row
 
-pub returns-in-err-check-hash-key : goal.returns-in-err-check-hash-key
-returns-in-err-check-hash-key c =
-    let p = err_from_is_err_and c.from-residual.result c.from-residual.ensures.1 in
-    let e = err_answers _ _ _ c.in-err-check-hash-key.ensures in
+pub returns-in_err-check_hash_key : goal.returns-in_err-check_hash_key
+returns-in_err-check_hash_key c =
+    let p = err_from_is_err_and c.from_residual.result c.from_residual.ensures.1 in
+    let e = err_answers _ _ _ c.in_err-check_hash_key.ensures in
     rw (p.1, p.2) (declined short c.args.cipher_key.now c.args.hash_key.now c.in-Some.ensures.0 _ e)
 
-pub invariant-of-result : goal.invariant-of-result
-invariant-of-result c = let k = kept c in (k.long, (k.bytes, (k.some, tt)))
+pub invariant_of-result : goal.invariant_of-result
+invariant_of-result c = let k = kept c in record { long = k.long; bytes = k.bytes; some = k.some }
 
 pub returns : goal.returns
 returns c =
-    let e = (ok_answers _ _ _ c.in-ok-check-hash-key.ensures).0 in
+    let e = (ok_answers _ _ _ c.in_ok-check_hash_key.ensures).0 in
     let h = (kept_hash 8 c.args.hash_key.now _ e c.eight-hash.ensures.bytes c.eight-hash.ensures.row).same in
     made short c.args.cipher_key.now c.args.hash_key.now c.in-Some.ensures.0 _ e c.in-Some.ensures.1 h

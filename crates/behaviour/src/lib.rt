@@ -1,6 +1,6 @@
+// How stocks, reels and listings behave on examples. There are only tests here, so that the crates they are of are proved once.
 #![tactic(auto)]
 
-// How stocks, reels and listings behave on examples. There are only tests here, so that the crates they are of are proved once.
 #[cfg(test)]
 mod listings;
 #[cfg(test)]

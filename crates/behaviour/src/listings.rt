@@ -3,7 +3,6 @@ use flat::flat::FlatStock;
 use listing::copy::copy_frames;
 use listing::list::list_frames;
 use listing::load::load_listing;
-use reel::load::Loadable;
 use reel::reel::LockedReel;
 use std::alloc::Global;
 use std::test::Fail;

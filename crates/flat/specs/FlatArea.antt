@@ -124,6 +124,9 @@ module _ (n : ℕ) (bads xs : List ℕ) where
   pub slots_framed : AllFramed (all_slots xs)
   slots_framed = all_framed n _ bads xs fit
 
+  pub slots_few : length (all_slots xs).slots ≤ 65536
+  slots_few = rw slots_long (omega arith)
+
   same_count : (ys : List ℕ) → length ys ≡ length xs → all_slots ys ≡ flat_contents n (flat_count n (length xs)) bads ys
   same_count ys e = ap (λ z. flat_contents n (flat_count n z) bads ys) e
 

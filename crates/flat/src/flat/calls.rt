@@ -5,9 +5,8 @@ ghost use Rattle.stock.specs.BadLists.{bad_list};
 ghost use Rattle.stock.specs.Stocks.{put_fault, clear_fault, after_put, after_clear, fresh_contents};
 ghost use Rattle.flat.specs.Flats.{flat_count, Unmarked};
 ghost use Rattle.flat.specs.FlatHeld.{flat_over, flat_held, area_after_put, area_after_clear};
-ghost use Rattle.flat.specs.FlatArea.{slots_framed};
-ghost use Rattle.std.proofs.Common.{arith, rules};
-ghost use Rattle.stock.proofs.Rows.{slots_long};
+ghost use Rattle.flat.specs.FlatArea.{slots_framed, slots_few};
+ghost use Rattle.std.proofs.Common.{rules};
 
 use crate::flat::FlatStock;
 use crate::mark::{clear_marks, clear_slot, condition_of, fill_slot, read_slot};
@@ -87,7 +86,7 @@ impl Stock for FlatStock {
 
     ghost high = { Prim.search rules };
 
-    ghost few = { λ s. rw slots_long (omega arith) };
+    ghost few = { λ s. slots_few _ _ _ };
 
     fn frame_len(&self) -> usize {
         self.size.get()

@@ -3,7 +3,7 @@
 #![tactic(auto)]
 
 use ciphersuite::keys::make_again;
-use ciphersuite::suite::CipherSuite;
+use ciphersuite::cipher_suite::CipherSuite;
 use std::alloc::{AllocError, Global};
 use std::env;
 use suites::long::LongSuite;

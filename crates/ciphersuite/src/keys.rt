@@ -4,19 +4,14 @@ ghost use Rattle.arith.specs.Rows.{Bytes, zeros};
 ghost use Rattle.stock.specs.Refusals.{answered};
 ghost use Rattle.ciphersuite.specs.Keys.{hash_fault, CameFrom};
 
-use crate::suite::CipherSuite;
+use crate::cipher_suite::CipherSuite;
 use fault::key::KeyFault;
 
 // Whether every byte of a row is zero.
 pub fn all_zero(row: &[u8]) -> bool
     ensures { result ≡ zeros row.now }
 {
-    for x in row {
-        if *x != 0 {
-            return false;
-        }
-    }
-    true
+    row.iter().all(|x| *x == 0)
 }
 
 // What every suite asks of a hash key: one block of bytes, else 3, that are not all zero, else 4.

@@ -1,7 +1,7 @@
 // Suites: what sectors are sealed with. A suite is a block length, an arithmetic on blocks, and a cipher.
 #![tactic(auto)]
 
+pub mod cipher_suite;
 pub mod key_bytes;
 pub mod keys;
-pub mod suite;
 pub mod tally;

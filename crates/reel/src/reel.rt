@@ -20,9 +20,9 @@ pub struct LockedReel<St: Stock, Su: Suite> {
 
 // 5, then 6, then 7.
 fn check_shape<St: Stock, Su: Suite>(stock: &St, address: u64, fits: bool) -> Result<(), ReelFault>
-    ensures { result ≡ answered (shape_fault Su.block (book_of (St.held stock.now)) address fits) tt }
+    ensures { result ≡ answered (shape_fault Su.L (book_of (St.held stock.now)) address fits) tt }
 {
-    let block = Su::block_len();
+    let block = Su::L;
     let frame = stock.frame_len();
     if frame % block != 0 || frame < 2 * block || frame > 513 * block {
         return Err(ReelFault {
@@ -50,8 +50,8 @@ fn take_frame<St: Stock, Su: Suite>(
     address: u64,
     area: &mut [u8],
 ) -> Result<(), ReelFault>
-    ensures answer { result ≡ answered (take_fault Su.block (book_of (St.held stock.now)) address (length area.old)) tt }
-    ensures area { area.new ≡ taken Su.block (book_of (St.held stock.now)) address area.old }
+    ensures answer { result ≡ answered (take_fault Su.L (book_of (St.held stock.now)) address (length area.old)) tt }
+    ensures area { area.new ≡ taken Su.L (book_of (St.held stock.now)) address area.old }
 {
     let fits = area.len() == stock.frame_len();
     check_shape::<St, Su>(stock, address, fits)?;
@@ -64,8 +64,8 @@ fn load_frame<St: Stock, Su: Suite>(
     address: u64,
     frame: &[u8],
 ) -> Result<(), ReelFault>
-    ensures answer { result ≡ answered (load_fault Su.block (book_of (St.held stock.old)) address (length frame.now)) tt }
-    ensures book { book_of (St.held stock.new) ≡ after_load Su.block (book_of (St.held stock.old)) address frame.now }
+    ensures answer { result ≡ answered (load_fault Su.L (book_of (St.held stock.old)) address (length frame.now)) tt }
+    ensures book { book_of (St.held stock.new) ≡ after_load Su.L (book_of (St.held stock.old)) address frame.now }
 {
     let fits = frame.len() == stock.frame_len();
     check_shape::<St, Su>(stock, address, fits)?;
@@ -74,8 +74,8 @@ fn load_frame<St: Stock, Su: Suite>(
 }
 
 fn erase_slot<St: Stock, Su: Suite>(stock: &mut St, address: u64) -> Result<(), ReelFault>
-    ensures answer { result ≡ answered (erase_fault Su.block (book_of (St.held stock.old)) address) tt }
-    ensures book { book_of (St.held stock.new) ≡ after_erase Su.block (book_of (St.held stock.old)) address }
+    ensures answer { result ≡ answered (erase_fault Su.L (book_of (St.held stock.old)) address) tt }
+    ensures book { book_of (St.held stock.new) ≡ after_erase Su.L (book_of (St.held stock.old)) address }
 {
     check_shape::<St, Su>(stock, address, true)?;
     stock.clear(address)?;
@@ -108,16 +108,16 @@ impl<St: Stock, Su: Suite> LockedReel<St, Su> {
 
     // Copies the frame at an address into the area. Refused by 5 to 9, and the area is then as it was.
     pub fn take(&self, address: u64, area: &mut [u8]) -> Result<(), ReelFault>
-        ensures answer { result ≡ answered (take_fault Su.block (locked_book St.held self.now) address (length area.old)) tt }
-        ensures area { area.new ≡ taken Su.block (locked_book St.held self.now) address area.old }
+        ensures answer { result ≡ answered (take_fault Su.L (locked_book St.held self.now) address (length area.old)) tt }
+        ensures area { area.new ≡ taken Su.L (locked_book St.held self.now) address area.old }
     {
         take_frame::<St, Su>(&self.stock, address, area)
     }
 
     // Puts a frame in at an address. Refused by 5 to 8, and the reel is then as it was.
     pub fn load(&mut self, address: u64, frame: &[u8]) -> Result<(), ReelFault>
-        ensures answer { result ≡ answered (load_fault Su.block (locked_book St.held self.old) address (length frame.now)) tt }
-        ensures book { locked_book St.held self.new ≡ after_load Su.block (locked_book St.held self.old) address frame.now }
+        ensures answer { result ≡ answered (load_fault Su.L (locked_book St.held self.old) address (length frame.now)) tt }
+        ensures book { locked_book St.held self.new ≡ after_load Su.L (locked_book St.held self.old) address frame.now }
         ensures only { OnlySlot address (St.held self.old.stock) (St.held self.new.stock) }
         ensures suite { self.new.suite ≡ self.old.suite }
     {
@@ -126,8 +126,8 @@ impl<St: Stock, Su: Suite> LockedReel<St, Su> {
 
     // Makes an address blank. Refused by 5, 6 and 8, and the reel is then as it was.
     pub fn erase(&mut self, address: u64) -> Result<(), ReelFault>
-        ensures answer { result ≡ answered (erase_fault Su.block (locked_book St.held self.old) address) tt }
-        ensures book { locked_book St.held self.new ≡ after_erase Su.block (locked_book St.held self.old) address }
+        ensures answer { result ≡ answered (erase_fault Su.L (locked_book St.held self.old) address) tt }
+        ensures book { locked_book St.held self.new ≡ after_erase Su.L (locked_book St.held self.old) address }
         ensures only { OnlySlot address (St.held self.old.stock) (St.held self.new.stock) }
         ensures suite { self.new.suite ≡ self.old.suite }
     {
@@ -136,7 +136,7 @@ impl<St: Stock, Su: Suite> LockedReel<St, Su> {
 }
 
 impl<St: Stock, Su: Suite> Loadable for LockedReel<St, Su> {
-    ghost block = { Su.block };
+    ghost block = { Su.L };
 
     ghost book = { λ r. locked_book St.held r };
 

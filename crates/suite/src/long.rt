@@ -1,5 +1,5 @@
 // The long suite: blocks of sixteen bytes.
-ghost use Rattle.std.proofs.Common.{rules};
+ghost use Rattle.std.proofs.Common.{lit≤};
 
 use crate::suite::Suite;
 
@@ -9,13 +9,9 @@ pub struct LongSuite;
 impl Suite for LongSuite {
     const L: usize = 16;
 
-    ghost block = { 16 };
+    ghost L = { 16 };
 
-    ghost low = { Prim.search rules };
+    ghost low = { lit≤ tt };
 
-    ghost high = { Prim.search rules };
-
-    fn block_len() -> usize {
-        Self::L
-    }
+    ghost high = { lit≤ tt };
 }

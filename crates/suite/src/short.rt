@@ -1,5 +1,5 @@
 // The short suite, for small cards: blocks of eight bytes.
-ghost use Rattle.std.proofs.Common.{rules};
+ghost use Rattle.std.proofs.Common.{lit≤};
 
 use crate::suite::Suite;
 
@@ -9,13 +9,9 @@ pub struct ShortSuite;
 impl Suite for ShortSuite {
     const L: usize = 8;
 
-    ghost block = { 8 };
+    ghost L = { 8 };
 
-    ghost low = { Prim.search rules };
+    ghost low = { lit≤ tt };
 
-    ghost high = { Prim.search rules };
-
-    fn block_len() -> usize {
-        Self::L
-    }
+    ghost high = { lit≤ tt };
 }

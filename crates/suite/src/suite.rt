@@ -6,13 +6,9 @@ pub trait Suite {
     // the block length in bytes
     const L: usize;
 
-    ghost block: { ℕ };
+    ghost L: { ℕ };
 
-    // The block length in bytes: the constant, where a promise is to speak of it.
-    fn block_len() -> usize
-        ensures { result ≡ block };
+    ghost low: { 8 ≤ L };
 
-    ghost low: { 8 ≤ block };
-
-    ghost high: { block ≤ 32 };
+    ghost high: { L ≤ 32 };
 }

@@ -11,7 +11,7 @@ use arith::word::multiply;
 use cipher::speck::Speck;
 use ciphersuite::key_bytes::KeyBytes;
 use ciphersuite::keys::check_hash_key;
-use ciphersuite::suite::CipherSuite;
+use ciphersuite::cipher_suite::CipherSuite;
 use ciphersuite::tally::Tally;
 use fault::key::KeyFault;
 

@@ -1,5 +1,5 @@
 // The two suites: keys, blocks and tallies.
-use ciphersuite::suite::CipherSuite;
+use ciphersuite::cipher_suite::CipherSuite;
 use std::process::Abort;
 use std::test::Fail;
 use suites::long::LongSuite;

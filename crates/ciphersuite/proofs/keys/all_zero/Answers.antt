@@ -1,20 +1,15 @@
-use Rattle.std.proofs.Common.{◌+◌, ◌&&◌, drop, sym, ap, ◌∙◌, arith}
-use Rattle.std.proofs.lemmas.List.{at_drop_more, at_drop_all}
-use Rattle.std.proofs.lemmas.Bool.{eq-eqb, ne_eqb}
+use Rattle.std.proofs.Common.{rules, tests, ◌≡◌, ℕ, ◌==◌, ◌&&◌, List, [], ◌∷◌, refl, ap, ◌∙◌}
+use Rattle.std.specs.List.{list_all}
+use Rattle.std.proofs.lemmas.Iterator.{YieldsList-from_slice}
+use Rattle.std.proofs.lemmas.Iterator.Search.{all_from_yields_List}
 use Rattle.arith.specs.Rows.{zeros}
 use Rattle.ciphersuite.proofs.keys.all_zero.Goals as goal
 
-pub loop-x-preserved : goal.loop-x-preserved
-loop-x-preserved c =
-    let row = c.args.row.now in
-    let i = c.loop-x.x-index in
-    sym (at_drop_more zeros row i 0 (omega arith) ∙ ap (λ b. b && zeros (drop (i + 1) row)) (eq-eqb _ 0 c.if-x-ne0.false)) ∙ c.loop-x.invariant
-
-pub returns-then-x-ne0 : goal.returns-then-x-ne0
-returns-then-x-ne0 c =
-    let row = c.args.row.now in
-    let i = c.loop-x.x-index in
-    sym (at_drop_more zeros row i 0 (omega arith) ∙ ap (λ b. b && zeros (drop (i + 1) row)) (ne_eqb _ 0 c.if-x-ne0.true)) ∙ c.loop-x.invariant
+zeros_as_all : (s : List ℕ) → list_all (λ x. x == 0) s ≡ zeros s
+zeros_as_all [] = refl
+zeros_as_all (x ∷ xs) = ap (λ b. x == 0 && b) (zeros_as_all xs)
 
 pub returns : goal.returns
-returns c = sym (at_drop_all zeros c.args.row.now c.loop-x.x-index (omega arith)) ∙ c.loop-x.invariant
+returns c =
+    let row = c.args.row.now in
+    all_from_yields_List (λ x. x == 0) _ _ c.all.result c.all.ensures.ran (YieldsList-from_slice row cc) (λ x b q k. search (rules, tests)) ∙ zeros_as_all row

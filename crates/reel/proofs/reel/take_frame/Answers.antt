@@ -9,7 +9,7 @@ pub returns-in_err-get : goal.returns-in_err-get
 returns-in_err-get g c =
     let h = g.St.Stock.held c.args.stock.now in
     let p = err_from_is_err_and c.from_residual-in_err-get.result c.from_residual-in_err-get.ensures.1 in
-    let s : shape_fault g.Su.Suite.block (book_of h) c.args.address (eqb (length c.args.area.now) h.frame) ≡ None = rw c.frame_len.ensures at (ok_answers _ _ _ c.in_ok-check_shape.ensures).0 in
+    let s : shape_fault g.Su.Suite.L (book_of h) c.args.address (eqb (length c.args.area.now) h.frame) ≡ None = rw c.frame_len.ensures at (ok_answers _ _ _ c.in_ok-check_shape.ensures).0 in
     let f = err_answers _ _ _ c.in_err-get.ensures.answer in
-    let e = take_passed g.Su.Suite.block (book_of h) c.args.address _ _ p.2 (length c.args.area.now) s f in
+    let e = take_passed g.Su.Suite.L (book_of h) c.args.address _ _ p.2 (length c.args.area.now) s f in
     record { answer = rw e p.1; area = rw e (c.get.ensures.area ∙ rw f) }

@@ -8,6 +8,6 @@ returns g c =
     record {
       answer = c.erase_slot.ensures.answer;
       book = c.erase_slot.ensures.book;
-      only = erase_only g.Su.Suite.block (locked_book g.St.Stock.held c.args.self.now) c.args.address _ c.erase_slot.ensures.book;
+      only = erase_only g.Su.Suite.L (locked_book g.St.Stock.held c.args.self.now) c.args.address _ c.erase_slot.ensures.book;
       suite = refl;
     }

@@ -8,6 +8,6 @@ returns g c =
     record {
       answer = c.load_frame.ensures.answer;
       book = c.load_frame.ensures.book;
-      only = load_only g.Su.Suite.block (locked_book g.St.Stock.held c.args.self.now) c.args.address _ c.args.frame.now c.load_frame.ensures.book;
+      only = load_only g.Su.Suite.L (locked_book g.St.Stock.held c.args.self.now) c.args.address _ c.args.frame.now c.load_frame.ensures.book;
       suite = refl;
     }

@@ -1,5 +1,5 @@
 // What a suite is.
-ghost use Rattle.std.specs.Prelude.{◌≡◌, ℕ, ◌≤◌};
+ghost use Rattle.std.specs.Prelude.{◌≡◌};
 ghost use Rattle.arith.specs.Rows.{fitted};
 ghost use Rattle.stock.specs.Refusals.{Answers};
 ghost use Rattle.ciphersuite.specs.Tallies.{Tallies, Within, raised};
@@ -9,18 +9,16 @@ ghost use Rattle.ciphersuite.specs.Keys.{key_fault, CameFrom};
 
 use crate::key_bytes::KeyBytes;
 use fault::key::KeyFault;
+use suite::suite::Suite;
 
-// A suite is what sectors are sealed with: a block length of 8 to 32 bytes, an arithmetic on blocks that keeps the laws of its
-// meaning, and a cipher with keys of at most 32 bytes. It declines nothing but the making of keys.
-pub trait CipherSuite {
+// A suite with all that sectors are sealed with: an arithmetic on blocks that keeps the laws of its meaning, and a cipher with
+// keys of at most 32 bytes. It declines nothing but the making of keys.
+pub trait CipherSuite: Suite {
     // a row of L bytes, in the suite's own form
     type Block: Copy;
 
     // accepted keys
     type Keys: Copy;
-
-    // the block length in bytes
-    const L: usize;
 
     // what blocks and keys stand for, and the laws that they keep
     ghost meaning: { Meaning Self.Block Self.Keys };
@@ -32,10 +30,6 @@ pub trait CipherSuite {
     ghost aside: { Type 0 };
 
     ghost rest: { Self → aside };
-
-    // The block length in bytes: the constant, where a promise is to speak of it.
-    fn block_len() -> usize
-        ensures { (result ≡ meaning.size) × ((8 ≤ result) × (result ≤ 32)) };
 
     // The block that the first L bytes are; where there are fewer, zeros stand behind them.
     fn block_from(bytes: &[u8]) -> Self::Block
@@ -85,6 +79,8 @@ pub trait CipherSuite {
     // The bytes of the hash key that the keys came from.
     fn hash_key_bytes(keys: &Self::Keys) -> KeyBytes
         ensures { result ≡ kept (meaning.hash_key keys.now) };
+
+    ghost size: { meaning.size ≡ Self.L };
 
     ghost within: { (s : Self) → Within (tallies s) };
 }

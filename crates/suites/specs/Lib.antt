@@ -1,3 +1,2 @@
 pub mod Numbers
-pub mod Long
-pub mod Short
+pub mod Keys

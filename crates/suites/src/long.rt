@@ -1,148 +1,53 @@
 // The long suite: blocks are rows of sixteen bytes, the cipher is AES with keys of 16 or 32 bytes.
-ghost use Rattle.std.specs.Prelude.{◌≡◌};
-ghost use Rattle.arith.specs.Rows.{Bytes, fitted};
-ghost use Rattle.cipher.specs.AesKey.{aes_key};
-ghost use Rattle.ciphersuite.specs.Tallies.{none_asked, tallied as tally_of};
-ghost use Rattle.suites.specs.Long.{long};
-ghost use Rattle.std.proofs.Common.{rules};
+ghost use Rattle.arith.specs.Fields.{field128};
+ghost use Rattle.suites.specs.Numbers.{read_at};
+ghost use Rattle.std.proofs.Common.{lit≤};
 
-use crate::keys::LongKeys;
-use arith::row::{add_rows, fit, multiply_rows, spread, write128};
+use crate::block::Block;
+use crate::block_suite::BlockSuite;
+use crate::keys::Keys;
+use arith::row::{add_rows, multiply_rows, spread};
+use arith::word::Word;
 use cipher::aes::Aes;
-use ciphersuite::key_bytes::KeyBytes;
-use ciphersuite::keys::check_hash_key;
-use ciphersuite::cipher_suite::CipherSuite;
-use ciphersuite::tally::Tally;
-use fault::key::KeyFault;
 
-// The long suite, with how often it was asked for products and squares.
-#[derive(Clone, Copy)]
-pub struct LongSuite {
-    tally: Tally,
-}
+pub type LongSuite = BlockSuite<[u8; 16], Aes, 16>;
 
-impl LongSuite {
-    pub fn new() -> LongSuite
-        ensures { tally_of result.tally ≡ none_asked }
-    {
-        LongSuite {
-            tally: Tally::new(),
-        }
+// Keys of the long suite: AES under the cipher key, and a hash key of 16 bytes.
+pub type LongKeys = Keys<Aes, 16>;
+
+// A row stands for the number that it writes.
+impl Block<16> for [u8; 16] {
+    ghost constant = { 0x87 };
+
+    ghost field = { field128 };
+
+    ghost low = { lit≤ tt };
+
+    ghost high = { lit≤ tt };
+
+    ghost means = { read_at 16 };
+
+    fn from_row(row: [u8; 16]) -> [u8; 16] {
+        row
     }
 
-    // How often it was asked for products and squares, as of now.
-    pub fn tally(&self) -> Tally
-        ensures { result ≡ self.now.tally }
-    {
-        let LongSuite { tally } = *self;
-        tally
-    }
-}
-
-// Sixteen bytes of a row, with zeros behind them where it has fewer.
-fn sixteen(bytes: &[u8]) -> [u8; 16]
-    ensures row { result ≡ fitted 16 bytes.now }
-    ensures bytes { Bytes bytes.now }
-{
-    let mut row = [0; 16];
-    fit(&mut row, bytes);
-    row
-}
-
-// The sum of two blocks.
-fn sum(a: [u8; 16], b: [u8; 16]) -> [u8; 16]
-    ensures { long.means result ≡ long.field.add (long.means a) (long.means b) }
-{
-    add_rows(a, b)
-}
-
-// The product of two blocks.
-fn product(a: [u8; 16], b: [u8; 16]) -> [u8; 16]
-    ensures { long.means result ≡ long.field.mul (long.means a) (long.means b) }
-{
-    multiply_rows(a, b)
-}
-
-// A block under AES.
-fn encipher(aes: &Aes, block: [u8; 16]) -> [u8; 16]
-    ensures { long.means result ≡ long.cipher (aes_key aes.now) (long.means block) }
-{
-    aes.encrypt(&sixteen(&block))
-}
-
-impl CipherSuite for LongSuite {
-    type Block = [u8; 16];
-
-    type Keys = LongKeys;
-
-    const L: usize = 16;
-
-    ghost meaning = { long };
-
-    ghost tallies = { λ s. tally_of s.tally };
-
-    ghost aside = { Unit {0} };
-
-    ghost rest = { λ _. tt };
-
-    ghost within = { Prim.search rules };
-
-    fn block_len() -> usize {
-        Self::L
-    }
-
-    fn block_from(bytes: &[u8]) -> [u8; 16] {
-        sixteen(bytes)
-    }
-
-    fn row_of(block: [u8; 16]) -> [u8; 32] {
-        spread(&block)
+    fn to_row(self) -> [u8; 16] {
+        spread(&self)
     }
 
     fn number(j: u64) -> [u8; 16] {
-        write128(j as u128)
+        (j as u128).to_row()
     }
 
     fn zero() -> [u8; 16] {
         [0; 16]
     }
 
-    fn add(a: [u8; 16], b: [u8; 16]) -> [u8; 16] {
-        sum(a, b)
+    fn add(self, other: [u8; 16]) -> [u8; 16] {
+        add_rows::<u128>(self, other)
     }
 
-    fn multiply(&mut self, a: [u8; 16], b: [u8; 16]) -> [u8; 16] {
-        self.tally.count_product();
-        product(a, b)
-    }
-
-    fn square(&mut self, a: [u8; 16]) -> [u8; 16] {
-        self.tally.count_squaring();
-        product(a, a)
-    }
-
-    fn make_keys(cipher_key: &[u8], hash_key: &[u8]) -> Result<LongKeys, KeyFault> {
-        let Some(aes) = Aes::new(cipher_key) else {
-            return Err(KeyFault::CipherKeyLength);
-        };
-        check_hash_key(Self::L, hash_key)?;
-        let hash = sixteen(hash_key);
-        Ok(LongKeys { aes, hash })
-    }
-
-    fn hash_key(keys: &LongKeys) -> [u8; 16] {
-        keys.hash
-    }
-
-    fn encrypt(keys: &LongKeys, block: [u8; 16]) -> [u8; 16] {
-        encipher(&keys.aes, block)
-    }
-
-    fn cipher_key_bytes(keys: &LongKeys) -> KeyBytes {
-        KeyBytes::new(keys.aes.key())
-    }
-
-    fn hash_key_bytes(keys: &LongKeys) -> KeyBytes {
-        KeyBytes::new(&keys.hash)
+    fn multiply(self, other: [u8; 16]) -> [u8; 16] {
+        multiply_rows::<u128>(self, other)
     }
 }

@@ -1,7 +1,0 @@
-use Rattle.std.proofs.Common.{sym}
-use Rattle.arith.specs.Fields.{field128}
-use Rattle.arith.specs.Elems.{elem_path}
-use Rattle.suites.proofs.long.LongSuiteCipherSuite.zero.Goals as goal
-
-pub returns : goal.returns
-returns c = elem_path 128 (sym field128.zero_is)

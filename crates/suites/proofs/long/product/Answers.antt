@@ -1,6 +1,0 @@
-use Rattle.arith.specs.Fields.{field128}
-use Rattle.suites.proofs.Meant.{meant}
-use Rattle.suites.proofs.long.product.Goals as goal
-
-pub returns : goal.returns
-returns c = meant 16 _ _ _ c.multiply_rows.ensures (field128.mul_is _ _)

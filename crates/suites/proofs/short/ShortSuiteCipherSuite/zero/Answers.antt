@@ -1,7 +1,0 @@
-use Rattle.std.proofs.Common.{sym}
-use Rattle.arith.specs.Fields.{field64}
-use Rattle.arith.specs.Elems.{elem_path}
-use Rattle.suites.proofs.short.ShortSuiteCipherSuite.zero.Goals as goal
-
-pub returns : goal.returns
-returns c = elem_path 64 (sym field64.zero_is)

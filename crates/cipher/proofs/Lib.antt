@@ -1,10 +1,3 @@
-pub mod Every
-pub mod Xor
-pub mod Mixing
-pub mod Doubling
-pub mod SboxApart
-pub mod ScheduleBytes
+pub mod Kept
 pub mod AesRounds
-pub mod AesApart
 pub mod SpeckRounds
-pub mod SpeckApart

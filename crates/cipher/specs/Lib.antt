@@ -6,3 +6,12 @@ pub mod Aes
 pub mod AesKey
 pub mod Speck
 pub mod SpeckKey
+pub mod KeyBytes
+pub mod Every
+pub mod Xor
+pub mod Mixing
+pub mod Doubling
+pub mod SboxApart
+pub mod ScheduleBytes
+pub mod AesApart
+pub mod SpeckApart

@@ -1,5 +1,6 @@
 // The published vectors of the two ciphers.
 use cipher::aes::Aes;
+use cipher::block_cipher::BlockCipher;
 use cipher::speck::Speck;
 use std::process::Abort;
 use std::test::Fail;

@@ -1,46 +1,41 @@
 // Taking a key, encrypting a block, and giving the key back.
-ghost use Rattle.std.specs.Prelude.{◌≡◌, true, false, length, MatchOption};
-ghost use Rattle.arith.specs.Rows.{OneToOne};
 ghost use Rattle.cipher.specs.Speck.{speck_takes, speck};
 ghost use Rattle.cipher.specs.SpeckKey.{speck_key};
+ghost use Rattle.cipher.specs.SpeckApart.{speck_taken, speck_most, speck_row, speck_one_to_one};
 
+use crate::block_cipher::BlockCipher;
 use crate::speck::Speck;
 use crate::speck::steps::{encrypt_by, expand};
-use arith::row::fit;
 
-// Whether keys of so many bytes are taken.
-fn takes(len: usize) -> bool
-    ensures { result ≡ speck_takes len }
-{
-    len == 16
-}
+// Speck64/128 on blocks of 8 bytes, under keys of 16 bytes.
+impl BlockCipher<8> for Speck {
+    ghost takes = { speck_takes };
 
-impl Speck {
-    // Speck64/128 under a key of 16 bytes; there is none for a key of another length.
-    pub fn new(key: &[u8]) -> Option<Speck>
-        ensures { MatchOption result (speck_takes (length key.now) ≡ false) (λ s. (speck_takes (length key.now) ≡ true) × (speck_key s ≡ key.now)) }
-    {
-        if !takes(key.len()) {
-            return None;
-        }
-        let mut own = [0; 16];
-        fit(&mut own, key);
-        let schedule = expand(&own);
-        Some(Speck { key: own, schedule })
+    ghost enciphered = { speck };
+
+    ghost key_of = { speck_key };
+
+    ghost taken = { λ s. speck_taken (speck_key s) s.within };
+
+    ghost bytes = { λ s. s.bytes };
+
+    ghost most = { speck_most };
+
+    ghost rows = { λ key block _ _. speck_row key block };
+
+    ghost one_to_one = { speck_one_to_one };
+
+    fn new(key: &[u8]) -> Option<Speck> {
+        let key = <[u8; 16]>::try_from(key).ok()?;
+        let schedule = expand(&key);
+        Some(Speck { key, schedule })
     }
 
-    // A block under the key. Distinct blocks give distinct blocks.
-    pub fn encrypt(&self, block: &[u8; 8]) -> [u8; 8]
-        ensures value { result ≡ speck (speck_key self.now) block.now }
-        ensures apart { OneToOne 8 (speck (speck_key self.now)) }
-    {
+    fn encrypt(&self, block: &[u8; 8]) -> [u8; 8] {
         encrypt_by(&self.schedule, block)
     }
 
-    // The key.
-    pub fn key(&self) -> &[u8]
-        ensures { result.now ≡ speck_key self.now }
-    {
+    fn key(&self) -> &[u8] {
         &self.key
     }
 }

@@ -2,7 +2,7 @@ use Rattle.std.proofs.Common.{◌≡◌, get_or, ◌∙◌, arith}
 use Rattle.std.proofs.lemmas.List.FromFn.{get_or-map-range_with_len}
 use Rattle.cipher.specs.Field.{inverse_below}
 use Rattle.cipher.specs.SubByte.{affine, sub}
-use Rattle.cipher.proofs.SboxApart.{sub_is, sub_one_to_one, times_inverse}
+use Rattle.cipher.specs.SboxApart.{sub_is, sub_one_to_one, times_inverse}
 use Rattle.cipher.proofs.sbox.sub_byte.Goals as goal
 
 pub returns : goal.returns

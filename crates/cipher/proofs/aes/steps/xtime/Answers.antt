@@ -1,7 +1,7 @@
 use Rattle.std.proofs.Common.{◌*◌, ◌/◌, ◌%◌, refl, arith}
 use lib.Bits.{bit_xor}
 use Rattle.cipher.specs.Field.{xtime}
-use Rattle.cipher.proofs.Every.{same_below}
+use Rattle.cipher.specs.Every.{same_below}
 use Rattle.cipher.proofs.aes.steps.xtime.Goals as goal
 
 pub returns : goal.returns

@@ -1,7 +1,7 @@
--- the mixing of a column by a map f that is linear in XOR: equal mixed columns are of equal columns
+-- The mixing of a column by a map f that is linear in XOR: equal mixed columns are of equal columns. Assumes nothing.
 use Rattle.std.proofs.Common.{◌≡◌, ℕ, sym, ap, ◌∙◌, ap₂}
 use lib.Bits.{bit_xor, xor_comm, xor_self}
-use Rattle.cipher.proofs.Xor.{xors, xor_same}
+use Rattle.cipher.specs.Xor.{xors, xor_same}
 
 module _ (f : ℕ → ℕ) (lin : (a b : ℕ) → f (bit_xor a b) ≡ bit_xor (f a) (f b)) where
   abbrev mix : ℕ → ℕ → ℕ → ℕ → ℕ

@@ -1,7 +1,7 @@
 use Rattle.cipher.specs.AesKey.{aes_key}
+use Rattle.cipher.specs.AesApart.{aes_one_to_one}
 use Rattle.cipher.proofs.AesRounds.{aes_scheduled}
-use Rattle.cipher.proofs.AesApart.{aes_one_to_one}
-use Rattle.cipher.proofs.aes.Aes.encrypt.Goals as goal
+use Rattle.cipher.proofs.aes.calls.AesBlockCipher16.encrypt.Goals as goal
 
 pub returns : goal.returns
 returns c =

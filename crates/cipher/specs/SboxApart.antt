@@ -1,4 +1,4 @@
--- the S-box: one test of the inverses of all the bytes, which antt computes, and what it says of each byte
+-- The S-box: one test of the inverses of all the bytes, which antt computes, and what it says of each byte. Assumes nothing.
 use Rattle.std.proofs.Common.{◌≡◌, ℕ, suc, pred, ◌<◌, Bool, true, false, ◌&&◌, eqb, ltb, List, [], ◌∷◌, map, get_or, sym, refl, ap, ◌∙◌, arith}
 use Rattle.std.proofs.lemmas.List.{get_or-map}
 use Rattle.std.proofs.lemmas.List.FromFn.{length-map-range_with_len, get_or-map-range_with_len}
@@ -6,7 +6,7 @@ use Rattle.std.proofs.lemmas.Bool.{and_parts, eqb-true, ltb-true}
 use Rattle.arith.specs.Rows.{by_place}
 use Rattle.cipher.specs.Field.{times, inverse_below, inverse}
 use Rattle.cipher.specs.SubByte.{affine, sub}
-use Rattle.cipher.proofs.Every.{every, every_at}
+use Rattle.cipher.specs.Every.{every, every_at}
 
 -- where x first stands in a list
 abbrev place_of : ℕ → List ℕ → ℕ

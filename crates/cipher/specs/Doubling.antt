@@ -1,9 +1,9 @@
--- doubling in the byte field: it keeps bytes, and is linear in XOR
+-- Doubling in the byte field: it keeps bytes, and is linear in XOR. Assumes nothing.
 use Rattle.std.proofs.Common.{◌≡◌, ℕ, zero, suc, ◌*◌, ◌/◌, ◌%◌, ◌<◌, sym, refl, ap, ◌∙◌, add-zero, arith}
 use lib.Bits.{bit_xor, xor_block, xor_shr, xor_mod}
 use Rattle.cipher.specs.Field.{xtime}
-use Rattle.cipher.proofs.Every.{under_below}
-use Rattle.cipher.proofs.Xor.{xors}
+use Rattle.cipher.specs.Every.{under_below}
+use Rattle.cipher.specs.Xor.{xors}
 
 pub xtime_is_byte : (b : ℕ) → b < 256 → xtime b < 256
 xtime_is_byte = under_below xtime 256 256 refl

@@ -1,4 +1,4 @@
--- XOR: sums that are sorted, and of which equal terms cancel
+-- XOR: sums that are sorted, and of which equal terms cancel. Assumes nothing.
 use Rattle.std.proofs.Common.{◌≡◌, ℕ, sym, ap, ◌∙◌}
 use lib.Bits.{bit_xor, xor_assoc, xor_comm, xor_self, xor_zero_r, xor_zero_l}
 

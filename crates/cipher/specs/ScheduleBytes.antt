@@ -1,4 +1,4 @@
--- the round keys of AES are bytes
+-- The round keys of AES are bytes. Assumes nothing.
 use Rattle.std.proofs.Common.{ℕ, zero, suc, ◌+◌, ◌*◌, ◌/◌, ◌%◌, ◌<◌, ◌&&◌, eqb, ltb, List, length, lit<}
 use lib.Bits.{xor_lt}
 use Rattle.std.specs.List.{AllByRecursion as All}
@@ -7,8 +7,8 @@ use Rattle.std.proofs.lemmas.Bool.{cond_both}
 use Rattle.arith.specs.Rows.{Bytes}
 use Rattle.cipher.specs.Schedule.{rcon, key_byte, expanded, aes_rounds, round_keys}
 use Rattle.arith.proofs.Rows.{bytes_under}
-use Rattle.cipher.proofs.Doubling.{xtime_is_byte}
-use Rattle.cipher.proofs.SboxApart.{sub_is_byte}
+use Rattle.cipher.specs.Doubling.{xtime_is_byte}
+use Rattle.cipher.specs.SboxApart.{sub_is_byte}
 
 abbrev Byte : ℕ → Type 0
 Byte b = b < 256

@@ -1,13 +1,13 @@
--- Speck under one key: each round can be undone, and so can all of them
-use Rattle.std.proofs.Common.{◌≡◌, ℕ, zero, suc, ◌+◌, ◌*◌, ◌/◌, ◌%◌, ◌^◌, ◌<◌, List, [], ◌∷◌, ◌++◌, get_or, refl, ap, arith}
+-- Speck: how long its keys are; and under one key each round can be undone, and so can all of them. Assumes nothing.
+use Rattle.std.proofs.Common.{◌≡◌, ℕ, zero, suc, ◌+◌, ◌*◌, ◌/◌, ◌%◌, ◌^◌, ◌<◌, ◌≤◌, true, List, [], ◌∷◌, ◌++◌, length, get_or, refl, ap, arith}
 use lib.Bits.{xor_lt, or_shifted_r, or_shifted}
-use Rattle.cipher.proofs.Xor.{xor_back}
+use Rattle.cipher.specs.Xor.{xor_back}
 use Rattle.arith.proofs.Rows.{bytes_under}
+use Rattle.std.proofs.lemmas.Bool.{eqb-true}
 use Rattle.std.specs.List.{AllByRecursion as All}
 use Rattle.std.proofs.lemmas.List.FromFn.{fill_by_all}
-use Rattle.arith.specs.Rows.{Bytes, Row}
-use Rattle.arith.specs.Rows.{OneToOne}
-use Rattle.cipher.specs.Speck.{ror, rol, mixed, turned, word, word_bytes, keys_from, speck_keys, rounds, speck}
+use Rattle.arith.specs.Rows.{Bytes, Row, OneToOne}
+use Rattle.cipher.specs.Speck.{speck_takes, ror, rol, mixed, turned, word, word_bytes, keys_from, speck_keys, rounds, speck}
 
 abbrev W : ℕ → Type 0
 W w = w < 2 ^ 32
@@ -77,3 +77,9 @@ speck_one_to_one key h a b ra rb e =
     let ks = keys_W 27 0 _ _ _ _ (omega arith) (word-W key 0 h) (word-W key 4 h) (word-W key 8 h) (word-W key 12 h) in
     let z = rounds_back (speck_keys key) _ _ _ _ ks (word-W a 4 ra.1) (word-W a 0 ra.1) (word-W b 4 rb.1) (word-W b 0 rb.1) e in
     same_row a b ra rb z.1 z.0
+
+pub speck_most : (n : ℕ) → speck_takes n ≡ true → n ≤ 32
+speck_most n h = let e = eqb-true n 16 h in omega arith
+
+pub speck_taken : (key : List ℕ) → length key ≡ 16 → speck_takes (length key) ≡ true
+speck_taken key e = ap speck_takes e

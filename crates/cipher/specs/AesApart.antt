@@ -1,23 +1,23 @@
--- AES under one key: each step takes rows to rows and can be undone, and so does the whole
-use Rattle.std.proofs.Common.{◌≡◌, ℕ, zero, suc, ◌+◌, ◌-◌, ◌*◌, ◌%◌, ◌<◌, List, length, get_or, sym, refl, ◌∙◌, subst, zero-add, arith, lit<}
+-- AES: how long its keys are; and under one key each step takes rows to rows and can be undone, and so does the whole. Assumes nothing.
+use Rattle.std.proofs.Common.{◌≡◌, ℕ, zero, suc, ◌+◌, ◌-◌, ◌*◌, ◌%◌, ◌<◌, ◌≤◌, true, eqb, List, length, get_or, sym, refl, ◌∙◌, subst, ⊎_elim, zero-add, arith, lit<}
+use Rattle.std.proofs.lemmas.Bool.{or_cases, eqb-true}
 use lib.Bits.{xor_lt}
 use Rattle.std.specs.List.{range_with_len, AllByRecursion as All}
 use Rattle.std.proofs.lemmas.List.{ext_get_or}
 use Rattle.std.proofs.ByRecursion.{All-get_or}
 use Rattle.std.proofs.lemmas.List.FromFn.{length-range_with_len, get_or-range_with_len}
-use Rattle.arith.specs.Rows.{Bytes, Row}
-use Rattle.arith.specs.Rows.{by_place, OneToOne}
+use Rattle.arith.specs.Rows.{Bytes, Row, by_place, OneToOne}
 use Rattle.cipher.specs.Field.{xtime}
 use Rattle.cipher.specs.Steps.{sub_at, shifted_at, in_column, mixed, mixed_at, keyed_at, sub_bytes, shift_rows, mix_columns, add_round_key}
 use Rattle.cipher.specs.Schedule.{aes_rounds, round_keys}
-use Rattle.cipher.specs.Aes.{after, aes_by, aes}
+use Rattle.cipher.specs.Aes.{aes_takes, after, aes_by, aes}
 use Rattle.arith.proofs.Places.{row_by_place, by_place_back}
-use Rattle.cipher.proofs.Every.{same_below}
-use Rattle.cipher.proofs.SboxApart.{sub_is_byte, sub_one_to_one}
-use Rattle.cipher.proofs.Xor.{xor_back}
-use Rattle.cipher.proofs.Doubling.{xtime_is_byte, xtime_xor}
-use Rattle.cipher.proofs.Mixing.{column_back}
-use Rattle.cipher.proofs.ScheduleBytes.{round_keys_bytes}
+use Rattle.cipher.specs.Every.{same_below}
+use Rattle.cipher.specs.SboxApart.{sub_is_byte, sub_one_to_one}
+use Rattle.cipher.specs.Xor.{xor_back}
+use Rattle.cipher.specs.Doubling.{xtime_is_byte, xtime_xor}
+use Rattle.cipher.specs.Mixing.{column_back}
+use Rattle.cipher.specs.ScheduleBytes.{round_keys_bytes}
 
 -- a step takes rows to rows, and no two to one
 abbrev Good : (List ℕ → List ℕ) → Type 0
@@ -92,8 +92,11 @@ by_good nr w h = then (after (nr - 1) w) _ (after_good (nr - 1) w h) (then sub_b
 aes_good : (key : List ℕ) → Bytes key → Good (aes key)
 aes_good key h = by_good (aes_rounds (length key)) (round_keys key) (round_keys_bytes key h)
 
-pub aes_row : (key s : List ℕ) → Bytes key → Row 16 s → Row 16 (aes key s)
-aes_row key s h = (aes_good key h).0 s
+pub aes_row : (key block : List ℕ) → Bytes key → Row 16 block → Row 16 (aes key block)
+aes_row key block h = (aes_good key h).0 block
 
 pub aes_one_to_one : (key : List ℕ) → Bytes key → OneToOne 16 (aes key)
 aes_one_to_one key h = (aes_good key h).1
+
+pub aes_most : (n : ℕ) → aes_takes n ≡ true → n ≤ 32
+aes_most n h = ⊎_elim (λ e. let q = eqb-true n 16 e in omega arith) (λ e. let q = eqb-true n 32 e in omega arith) (or_cases (eqb n 16) (eqb n 32) h)

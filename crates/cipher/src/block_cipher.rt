@@ -13,19 +13,6 @@ pub trait BlockCipher<const N: usize>: Copy {
     // the bytes of the key that a value was made from
     ghost key_of: { Self → List ℕ };
 
-    // The cipher under a key; there is none for a key of a length that is not taken.
-    fn new(key: &[u8]) -> Option<Self>
-        ensures { MatchOption result (takes (length key.now) ≡ false) (λ c. (takes (length key.now) ≡ true) × (key_of c ≡ key.now)) };
-
-    // A block under the key. Distinct blocks give distinct blocks.
-    fn encrypt(&self, block: &[u8; N]) -> [u8; N]
-        ensures value { result ≡ enciphered (key_of self.now) block.now }
-        ensures apart { OneToOne N (enciphered (key_of self.now)) };
-
-    // The key.
-    fn key(&self) -> &[u8]
-        ensures { result.now ≡ key_of self.now };
-
     // the key of a value has a length that is taken
     ghost taken: { (c : Self) → takes (length (key_of c)) ≡ true };
 
@@ -40,4 +27,17 @@ pub trait BlockCipher<const N: usize>: Copy {
 
     // under one key no two blocks are taken to one
     ghost one_to_one: { (key : List ℕ) → Bytes key → OneToOne N (enciphered key) };
+
+    // The cipher under a key; there is none for a key of a length that is not taken.
+    fn new(key: &[u8]) -> Option<Self>
+        ensures { MatchOption result (takes (length key.now) ≡ false) (λ c. (takes (length key.now) ≡ true) × (key_of c ≡ key.now)) };
+
+    // A block under the key. Distinct blocks give distinct blocks.
+    fn encrypt(&self, block: &[u8; N]) -> [u8; N]
+        ensures value { result ≡ enciphered (key_of self.now) block.now }
+        ensures apart { OneToOne N (enciphered (key_of self.now)) };
+
+    // The key.
+    fn key(&self) -> &[u8]
+        ensures { result.now ≡ key_of self.now };
 }

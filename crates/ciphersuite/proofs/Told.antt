@@ -1,22 +1,12 @@
 -- The bytes that accepted keys tell are accepted again. Assumes nothing.
 use Rattle.std.proofs.Common.{◌≡◌, ℕ, ◌≤◌, min, List, length, take, Some, None, Ok, Err, Option, sym, ap, ◌∙◌, ap₂, ⊎_elim, arith}
-use Rattle.std.proofs.lemmas.List.{take_all}
-use Rattle.std.proofs.lemmas.Bool.{cases_lt, eq-eqb}
-use Rattle.arith.proofs.Places.{take_fitted}
+use Rattle.std.proofs.lemmas.Bool.{eq-eqb}
+use Rattle.cipher.proofs.Kept.{kept_whole}
 use Rattle.stock.specs.Refusals.{Answers}
 use Rattle.fault.specs.declared.key.KeyFault.{KeyFault}
 use Rattle.ciphersuite.specs.Meaning.{Meaning}
-use Rattle.ciphersuite.specs.KeyBytes.{kept, bytes_kept}
+use Rattle.cipher.specs.KeyBytes.{kept, bytes_kept}
 use Rattle.ciphersuite.specs.Keys.{key_fault, CameFrom}
-
--- a front that is cut at the row's end
-pub take_cut : (n m : ℕ) (s : List ℕ) → length s ≡ m → take (min n m) s ≡ take n s
-take_cut n m s h =
-    ⊎_elim (λ l. ap (λ k. take k s) (omega arith))
-    (λ l. take_all (min n m) s (omega arith) ∙ sym (take_all n s (omega arith))) (cases_lt n m)
-
-pub kept_whole : (s : List ℕ) → length s ≤ 32 → bytes_kept (kept s) ≡ s
-kept_whole s h = take_fitted 32 s h
 
 -- an answer where nothing is refused
 pub accepted : {X E : Type 0} (o : Option E) (P : X → Type 0) (x : X) → o ≡ None → Answers o P (Ok x) → P x

@@ -1,4 +1,3 @@
 pub mod Tallies
 pub mod Meaning
-pub mod KeyBytes
 pub mod Keys

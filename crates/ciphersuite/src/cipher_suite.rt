@@ -4,10 +4,10 @@ ghost use Rattle.arith.specs.Rows.{fitted};
 ghost use Rattle.stock.specs.Refusals.{Answers};
 ghost use Rattle.ciphersuite.specs.Tallies.{Tallies, Within, raised};
 ghost use Rattle.ciphersuite.specs.Meaning.{Meaning, numbered};
-ghost use Rattle.ciphersuite.specs.KeyBytes.{kept};
+ghost use Rattle.cipher.specs.KeyBytes.{kept};
 ghost use Rattle.ciphersuite.specs.Keys.{key_fault, CameFrom};
 
-use crate::key_bytes::KeyBytes;
+use cipher::key_bytes::KeyBytes;
 use fault::key::KeyFault;
 use suite::suite::Suite;
 

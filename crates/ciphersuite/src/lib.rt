@@ -2,6 +2,5 @@
 #![tactic(auto)]
 
 pub mod cipher_suite;
-pub mod key_bytes;
 pub mod keys;
 pub mod tally;

@@ -42,14 +42,14 @@ module _ (n : ℕ) where
   pub number_back : (e : Elem (8 * n)) (j : ℕ) → e.0 ≡ j → e ≡ read_at n (bytes_of n j)
   number_back e j h = sym (row_back e) ∙ ap (λ x. read_at n (bytes_of n x)) h
 
-  abbrev pub over : {c : ℕ} → 8 ≤ n → n ≤ 32 → Field (8 * n) c → {B K : Type 0} → (B → ℕ) →
+  abbrev pub over : {c : ℕ} → 8 ≤ n → n ≤ 32 → Field (8 * n) c → {B K : Type 0} → (B → Elem (8 * n)) →
       (takes : ℕ → Bool) (cipher : List ℕ → List ℕ → List ℕ) → Cipher n takes cipher → Telling n takes K → Meaning B K
-  over low high f number_of takes cipher good keys = record {
+  over low high f means takes cipher good keys = record {
     size = n;
     low = low;
     high = high;
     elem = Elem (8 * n);
-    means = λ b. at n (number_of b);
+    means = means;
     field = f.domain;
     row = λ e. bytes_of n e.0;
     reads = read_at n;

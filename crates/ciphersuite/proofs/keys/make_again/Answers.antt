@@ -1,5 +1,5 @@
 use Rattle.std.proofs.Common.{ap, ◌∙◌}
-use Rattle.ciphersuite.specs.KeyBytes.{bytes_kept}
+use Rattle.cipher.specs.KeyBytes.{bytes_kept}
 use Rattle.ciphersuite.proofs.Told.{cipher_kept, hash_kept, made_again, never_refused}
 use Rattle.ciphersuite.proofs.keys.make_again.Goals as goal
 

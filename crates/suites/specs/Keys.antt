@@ -18,7 +18,7 @@ module _ (n : ℕ) (takes : ℕ → Bool) where
     cipher_key = λ k. key_of k.cipher;
     cipher_taken = λ k. taken k.cipher;
     cipher_bytes = λ k. bytes k.cipher;
-    hash_key = λ k. k.hash;
-    hash_row = λ k. (k.long, k.bytes);
-    hash_some = λ k. k.some;
+    hash_key = λ k. k.hash.row;
+    hash_row = λ k. (k.hash.long, k.hash.bytes);
+    hash_some = λ k. k.hash.some;
   }

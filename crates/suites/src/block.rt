@@ -20,8 +20,8 @@ pub trait Block<const N: usize>: Copy {
     ghost means: { Self → Elem (8 * N) };
 
     // The block that a row writes.
-    fn from_row(row: [u8; N]) -> Self
-        ensures { means result ≡ read_at N row };
+    fn from_row(row: &[u8; N]) -> Self
+        ensures { means result ≡ read_at N row.now };
 
     // The row that writes the block.
     fn to_row(self) -> [u8; N]

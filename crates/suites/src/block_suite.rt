@@ -6,12 +6,11 @@ ghost use Rattle.suites.specs.Keys.{cipher_of, telling};
 ghost use Rattle.std.proofs.Common.{rules};
 
 use crate::block::Block;
-use crate::keys::Keys;
+use crate::keys::{HashKey, Keys};
 use arith::row::spread;
 use cipher::block_cipher::BlockCipher;
 use cipher::key_bytes::KeyBytes;
 use ciphersuite::cipher_suite::CipherSuite;
-use ciphersuite::keys::check_hash_key;
 use ciphersuite::tally::Tally;
 use fault::key::KeyFault;
 use std::marker::PhantomData;
@@ -70,7 +69,7 @@ impl<B: Block<N>, C: BlockCipher<N>, const N: usize> CipherSuite for BlockSuite<
     ghost within = { Prim.search rules };
 
     fn block_from(bytes: &[u8]) -> B {
-        B::from_row(spread(bytes))
+        B::from_row(&spread(bytes))
     }
 
     fn row_of(block: B) -> [u8; 32] {
@@ -101,17 +100,16 @@ impl<B: Block<N>, C: BlockCipher<N>, const N: usize> CipherSuite for BlockSuite<
 
     fn make_keys(cipher_key: &[u8], hash_key: &[u8]) -> Result<Keys<C, N>, KeyFault> {
         let cipher = C::new(cipher_key).ok_or(KeyFault::CipherKeyLength)?;
-        check_hash_key(N, hash_key)?;
-        let hash = spread(hash_key);
+        let hash = HashKey::new(hash_key)?;
         Ok(Keys { cipher, hash })
     }
 
     fn hash_key(keys: &Keys<C, N>) -> B {
-        B::from_row(keys.hash)
+        B::from_row(&keys.hash.row())
     }
 
     fn encrypt(keys: &Keys<C, N>, block: B) -> B {
-        B::from_row(keys.cipher.encrypt(&block.to_row()))
+        B::from_row(&keys.cipher.encrypt(&block.to_row()))
     }
 
     fn cipher_key_bytes(keys: &Keys<C, N>) -> KeyBytes {
@@ -119,6 +117,6 @@ impl<B: Block<N>, C: BlockCipher<N>, const N: usize> CipherSuite for BlockSuite<
     }
 
     fn hash_key_bytes(keys: &Keys<C, N>) -> KeyBytes {
-        KeyBytes::new(&keys.hash)
+        KeyBytes::new(&keys.hash.row())
     }
 }

@@ -27,8 +27,8 @@ impl Block<16> for [u8; 16] {
 
     ghost means = { read_at 16 };
 
-    fn from_row(row: [u8; 16]) -> [u8; 16] {
-        row
+    fn from_row(row: &[u8; 16]) -> [u8; 16] {
+        *row
     }
 
     fn to_row(self) -> [u8; 16] {

@@ -26,8 +26,8 @@ impl Block<8> for u64 {
 
     ghost means = { at 8 };
 
-    fn from_row(row: [u8; 8]) -> u64 {
-        Word::from_row(row)
+    fn from_row(row: &[u8; 8]) -> u64 {
+        Word::from_row(*row)
     }
 
     fn to_row(self) -> [u8; 8] {

@@ -1,7 +1,6 @@
 -- Rows that a function of the place gives, and loops that fill them. Assumes nothing.
-use Rattle.std.proofs.Common.{◌≡◌, ℕ, ◌+◌, ◌-◌, ◌<◌, ◌≤◌, List, ◌++◌, length, get_or, take, set, sym, ap, ◌∙◌, ⊎_elim, arith, lit<, length-set, length-take}
-use native.Mathlib.Nat.{sub-zero}
-use Rattle.std.proofs.lemmas.List.{ext_get_or, get_or_append_left, get_or-take, get_or_past}
+use Rattle.std.proofs.Common.{◌≡◌, ℕ, ◌+◌, ◌-◌, ◌<◌, ◌≤◌, List, ◌++◌, length, get_or, take, replicate, set, sym, ap, ◌∙◌, ⊎_elim, arith, lit<, length-append, length-set, length-take}
+use Rattle.std.proofs.lemmas.List.{ext_get_or, get_or_append_left, get_or-append_right, get_or-replicate, get_or-take, get_or_past, length-replicate}
 use Rattle.std.proofs.lemmas.Bool.{cases_lt}
 use Rattle.std.proofs.lemmas.List.Edits.{fill_by_more}
 use Rattle.std.proofs.lemmas.List.FromFn.{fill_by_all, length-map-range_with_len, get_or-map-range_with_len}
@@ -35,13 +34,6 @@ by_place_back n f g e k l = sym (get_or-by_place n f k l) ∙ ap (λ s. get_or s
 pub by_place_same : (n : ℕ) (f g : ℕ → ℕ) → ((k : ℕ) → k < n → f k ≡ g k) → by_place n f ≡ by_place n g
 by_place_same n f g h = filled_all n g n (by_place n f) (omega arith) (length_by_place n f, λ k l. get_or-by_place n f k l ∙ h k l)
 
--- a front that is copied of a row
-pub copied_front : (x y s : List ℕ) (n k : ℕ) → x ≡ take (n - 0) s → n ≤ length s → k < n → get_or (x ++ y) k 0 ≡ get_or s k 0
-copied_front x y s n k e h l =
-    let e' : x ≡ take n s = e ∙ ap (λ m. take m s) (sub-zero n) in
-    let g : k < length x = rw e' (simp length-take (omega arith)) in
-    get_or_append_left x y 0 k g ∙ ap (λ z. get_or z k 0) e' ∙ get_or-take n s k 0 l
-
 -- what is fitted: its length, its bytes, and the row itself in front
 pub length_fitted : (n : ℕ) (s : List ℕ) → length (fitted n s) ≡ n
 unfolding fitted
@@ -62,3 +54,16 @@ take_fitted n s h =
 pub fitted_same : (n : ℕ) (s : List ℕ) → length s ≡ n → fitted n s ≡ s
 unfolding fitted
 fitted_same n s h = ext_get_or 0 _ s (length_by_place n _ ∙ sym h) (λ k g. get_or-by_place n _ k (rw (length_by_place n (λ i. get_or s i 0)) at g))
+
+-- the front of a row with zeros behind it
+pub front_fitted : (n m : ℕ) (s : List ℕ) → n ≤ length s → n ≤ m → (n < m → length s ≤ n) → take n s ++ replicate (m - n) 0 ≡ fitted m s
+unfolding fitted
+front_fitted n m s h k past =
+    let l : length (take n s) ≡ n = simp length-take (omega arith) in
+    filled_all m (λ i. get_or s i 0) m _ (omega arith) (
+      simp (length-append, length-take, length-replicate) (omega arith),
+      λ i p. ⊎_elim
+          (λ q. get_or_append_left (take n s) _ 0 i (omega arith) ∙ get_or-take n s i 0 q)
+          (λ q. get_or-append_right (take n s) _ n i 0 l q ∙ get_or-replicate (m - n) (i - n) 0 0 (omega arith) ∙ sym (get_or_past s i 0 (omega arith)))
+          (cases_lt i n),
+    )

@@ -1,20 +1,36 @@
 // Machine words as polynomials over the field of two elements: bit i is the coefficient of power i.
-ghost use Rattle.std.specs.Prelude.{◌≡◌, ℕ, ◌*◌, ◌/◌, ◌%◌, ◌^◌, if◌then◌else◌, bit_xor, nat_lt};
+ghost use Rattle.std.specs.Prelude.{◌≡◌, ℕ, ◌*◌, ◌/◌, ◌%◌, ◌^◌, ◌<◌, List, bit_xor};
+ghost use Rattle.std.specs.Bool.{FalseIff};
 ghost use Rattle.arith.specs.Field.{pick, doubled, product, Field};
 ghost use Rattle.arith.specs.Fields.{field64, field128};
+ghost use Rattle.arith.specs.Rows.{bytes_of, value as number};
 
 // A word of an arithmetic without zero divisors: its sum is XOR, and its products are taken modulo a polynomial.
 pub trait Word: Copy {
-    // how many bits a word has
-    ghost bits: { ℕ };
+    // The bytes that write a word, the highest first.
+    type Row: Copy;
 
-    // what is added to a doubled word that has dropped a 1
-    ghost constant: { ℕ };
+    // How many bits a word has.
+    const BITS: u32;
+
+    // What is added to a doubled word that has dropped a 1.
+    const CONSTANT: Self;
+
+    ghost BITS: { ℕ };
+
+    ghost CONSTANT: { Self };
 
     ghost value: { Self → ℕ };
 
-    fn bits() -> u32
-        ensures { result ≡ bits };
+    ghost bytes: { Self.Row → List ℕ };
+
+    // The word that a row writes.
+    fn from_row(row: Self::Row) -> Self
+        ensures { value result ≡ number BITS (bytes row) };
+
+    // The row that writes the word.
+    fn to_row(self) -> Self::Row
+        ensures { bytes result ≡ bytes_of (BITS / 8) (value self) };
 
     fn zero() -> Self
         ensures { value result ≡ 0 };
@@ -22,9 +38,22 @@ pub trait Word: Copy {
     fn add(self, other: Self) -> Self
         ensures { value result ≡ bit_xor (value self) (value other) };
 
+    // One place up, and whether a 1 falls out.
+    fn shift_up(self) -> (Self, bool)
+        ensures word { value result.0 ≡ value self * 2 % 2 ^ BITS }
+        ensures falls_out { FalseIff result.1 (value self * 2 < 2 ^ BITS) };
+
     // One place up; where a 1 falls out, the constant is added.
     fn double(self) -> Self
-        ensures { value result ≡ doubled bits constant (value self) };
+        ensures { value result ≡ doubled BITS (value CONSTANT) (value self) }
+    {
+        let (up, falls_out) = self.shift_up();
+        if falls_out {
+            up.add(Self::CONSTANT)
+        } else {
+            up
+        }
+    }
 
     // One place down; the lowest bit is dropped.
     fn halve(self) -> Self
@@ -35,7 +64,7 @@ pub trait Word: Copy {
         ensures { value result ≡ pick 0 (value by % 2) (value self) };
 
     // the laws of the arithmetic
-    ghost field: { Field bits constant };
+    ghost field: { Field BITS (value CONSTANT) };
 }
 
 // The sum, with `left` added where the lowest bit of `right` is 1.
@@ -47,13 +76,13 @@ fn add_if_odd<W: Word>(sum: W, left: W, right: W) -> W
 
 // The product of two words: the sum of `a` doubled i times, over every power i whose bit in `b` is 1.
 pub fn multiply<W: Word>(a: W, b: W) -> W
-    ensures value { W.value result ≡ product W.bits W.constant (W.value a) (W.value b) }
-    ensures field { Field W.bits W.constant }
+    ensures value { W.value result ≡ product W.BITS (W.value W.CONSTANT) (W.value a) (W.value b) }
+    ensures field { Field W.BITS (W.value W.CONSTANT) }
 {
     let mut sum = W::zero();
     let mut left = a;
     let mut right = b;
-    for i in 0..W::bits() {
+    for _ in 0..W::BITS {
         sum = add_if_odd(sum, left, right);
         left = left.double();
         right = right.halve();
@@ -61,31 +90,30 @@ pub fn multiply<W: Word>(a: W, b: W) -> W
     sum
 }
 
-// What is added where `a` drops a 1 as it is doubled.
-fn dropped64(a: u64) -> u64
-    ensures { result ≡ (if nat_lt (a * 2) (2 ^ 64) then 0 else 0x1b) }
-{
-    if a < 1 << 63 { 0 } else { 0x1b }
-}
-
-fn dropped128(a: u128) -> u128
-    ensures { result ≡ (if nat_lt (a * 2) (2 ^ 128) then 0 else 0x87) }
-{
-    if a < 1 << 127 { 0 } else { 0x87 }
-}
-
 // Products modulo x^64 + x^4 + x^3 + x + 1.
 impl Word for u64 {
-    ghost bits = { 64 };
+    type Row = [u8; 8];
 
-    ghost constant = { 0x1b };
+    const BITS: u32 = u64::BITS;
+
+    const CONSTANT: u64 = 0x1b;
+
+    ghost BITS = { 64 };
+
+    ghost CONSTANT = { 0x1b };
 
     ghost value = { λ x. x };
 
+    ghost bytes = { λ row. row };
+
     ghost field = { field64 };
 
-    fn bits() -> u32 {
-        u64::BITS
+    fn from_row(row: [u8; 8]) -> u64 {
+        u64::from_be_bytes(row)
+    }
+
+    fn to_row(self) -> [u8; 8] {
+        u64::to_be_bytes(self)
     }
 
     fn zero() -> u64 {
@@ -96,8 +124,8 @@ impl Word for u64 {
         self ^ other
     }
 
-    fn double(self) -> u64 {
-        (self << 1) ^ dropped64(self)
+    fn shift_up(self) -> (u64, bool) {
+        self.overflowing_add(self)
     }
 
     fn halve(self) -> u64 {
@@ -111,16 +139,28 @@ impl Word for u64 {
 
 // Products modulo x^128 + x^7 + x^2 + x + 1.
 impl Word for u128 {
-    ghost bits = { 128 };
+    type Row = [u8; 16];
 
-    ghost constant = { 0x87 };
+    const BITS: u32 = u128::BITS;
+
+    const CONSTANT: u128 = 0x87;
+
+    ghost BITS = { 128 };
+
+    ghost CONSTANT = { 0x87 };
 
     ghost value = { λ x. x };
 
+    ghost bytes = { λ row. row };
+
     ghost field = { field128 };
 
-    fn bits() -> u32 {
-        u128::BITS
+    fn from_row(row: [u8; 16]) -> u128 {
+        u128::from_be_bytes(row)
+    }
+
+    fn to_row(self) -> [u8; 16] {
+        u128::to_be_bytes(self)
     }
 
     fn zero() -> u128 {
@@ -131,8 +171,8 @@ impl Word for u128 {
         self ^ other
     }
 
-    fn double(self) -> u128 {
-        (self << 1) ^ dropped128(self)
+    fn shift_up(self) -> (u128, bool) {
+        self.overflowing_add(self)
     }
 
     fn halve(self) -> u128 {

@@ -1,6 +1,6 @@
 use Rattle.std.proofs.Common.{◌∙◌, div-one}
 use Rattle.arith.specs.Rows.{bytes_of}
-use Rattle.arith.proofs.row.write64.Goals as goal
+use Rattle.arith.proofs.word.U128Word.to_row.Goals as goal
 
 pub returns : goal.returns
 unfolding bytes_of

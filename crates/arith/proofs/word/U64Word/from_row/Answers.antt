@@ -1,7 +1,7 @@
 use Rattle.std.proofs.Common.{◌≡◌, ◌^◌, ◌<◌, sym, ◌∙◌, mod-eq_of_lt, arith}
 use Rattle.std.specs.Int.Digits.{number_from_digits}
 use Rattle.arith.proofs.Rows.{by_bytes, reads}
-use Rattle.arith.proofs.row.read64.Goals as goal
+use Rattle.arith.proofs.word.U64Word.from_row.Goals as goal
 
 pub returns : goal.returns
 returns c =

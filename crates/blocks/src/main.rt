@@ -28,7 +28,7 @@ fn hex(heap: Global, bytes: &[u8]) -> Result<String, AllocError> {
 // The row of a block, as pairs of digits.
 fn block_hex<S: CipherSuite>(heap: Global, block: S::Block) -> Result<String, AllocError> {
     let row = S::row_of(block);
-    hex(heap, &row[0..S::block_len()])
+    hex(heap, &row[0..S::L])
 }
 
 // Tells what comes of making keys of these bytes.
@@ -71,7 +71,7 @@ fn show_blocks<S: CipherSuite>(
 
 // Tells all of one suite.
 fn show<S: CipherSuite>(rt: &HostRuntime, suite: &mut S) -> anyhow::Result<()> {
-    let len = S::block_len();
+    let len = S::L;
     println!(rt; "  blocks of {len} bytes")?;
     try_keys::<S>(rt, &KEY[0..24], &KEY[0..len])?;
     try_keys::<S>(rt, &KEY[0..16], &KEY[0..12])?;
@@ -87,10 +87,10 @@ fn show<S: CipherSuite>(rt: &HostRuntime, suite: &mut S) -> anyhow::Result<()> {
 
 // The first argument as a number, if there is one.
 fn asked(rt: &HostRuntime) -> anyhow::Result<Option<u64>> {
-    for word in env::args(rt)?.skip(1) {
-        return Ok(Some(word.parse::<u64>()?));
-    }
-    Ok(None)
+    let Some(word) = env::args(rt)?.nth(1) else {
+        return Ok(None);
+    };
+    Ok(Some(word.parse::<u64>()?))
 }
 
 // So many products of 16-byte rows, each of the last one and a fixed one.
@@ -98,7 +98,7 @@ fn products(count: u64) -> [u8; 32] {
     let mut suite = LongSuite::new();
     let by = <LongSuite as CipherSuite>::block_from(&KEY[16..32]);
     let mut block = <LongSuite as CipherSuite>::block_from(&KEY[0..16]);
-    for _i in 0..count {
+    for _ in 0..count {
         let next = suite.multiply(block, by);
         block = next;
     }

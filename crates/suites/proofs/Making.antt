@@ -1,4 +1,4 @@
--- Making keys: what is known where nothing is refused, and the answer for it, for both suites. Assumes nothing.
+-- What is known of a hash key against which nothing stands. Assumes nothing.
 use Rattle.std.proofs.Common.{◌≡◌, ℕ, Bool, true, false, cond, eqb, List, length, Some, None, Ok, Err, sym, refl, ap, ◌∙◌, subst, arith}
 use Rattle.std.proofs.lemmas.Bool.{eqb-true}
 use Rattle.arith.specs.Rows.{Bytes, fitted, zeros}
@@ -27,14 +27,3 @@ kept_hash n hk hash e h f =
     let len = eqb-true (length hk) n t.0 in
     let s = f ∙ fitted_same n hk len in
     record { same = s; long = ap length s ∙ len; bytes = subst Bytes (sym s) h; some = ap zeros s ∙ t.1 }
-
-module _ {B K : Type 0} (m : Meaning B K) (ck hk : List ℕ) (taken : m.takes (length ck) ≡ true) where
-  -- with a cipher key of a length that is taken, the hash key decides
-  by_hash : key_fault m ck hk ≡ hash_fault m.size hk
-  by_hash = rw taken
-
-  pub made : (k : K) → hash_fault m.size hk ≡ None → m.cipher_key k ≡ ck → m.hash_key k ≡ hk → Answers (key_fault m ck hk) (CameFrom m ck hk) (Ok k)
-  made k e c h = rw (by_hash ∙ e) (record { cipher = c; hash = h })
-
-  pub declined : (f : KeyFault) → hash_fault m.size hk ≡ Some f → Answers (key_fault m ck hk) (CameFrom m ck hk) (Err f)
-  declined f e = rw (by_hash ∙ e)

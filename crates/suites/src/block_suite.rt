@@ -37,7 +37,8 @@ impl<B, C, const N: usize> BlockSuite<B, C, N> {
     pub fn tally(&self) -> Tally
         ensures { result ≡ self.now.tally }
     {
-        self.tally
+        let BlockSuite { tally, .. } = self;
+        *tally
     }
 }
 

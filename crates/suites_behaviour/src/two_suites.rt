@@ -45,7 +45,7 @@ fn keys_are_refused_by_the_lowest_number(rt: HostRuntime) -> Result<(), Fail> {
 
 // A suite's products and squares by the figures that are the same in both, and its row of a number.
 fn figures<S: CipherSuite>(rt: &impl Abort, suite: &mut S) {
-    let len = S::block_len();
+    let len = S::L;
     let product = S::row_of(suite.multiply(S::number(0x0e), S::number(0x11)));
     let square = S::row_of(suite.square(S::number(3)));
     assert!(rt; len >= 8 && len <= 32);

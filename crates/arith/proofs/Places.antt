@@ -56,14 +56,14 @@ unfolding fitted
 fitted_same n s h = ext_get_or 0 _ s (length_by_place n _ ∙ sym h) (λ k g. get_or-by_place n _ k (rw (length_by_place n (λ i. get_or s i 0)) at g))
 
 -- the front of a row with zeros behind it
-pub front_fitted : (n m : ℕ) (s : List ℕ) → n ≤ length s → n ≤ m → (n < m → length s ≤ n) → take n s ++ replicate (m - n) 0 ≡ fitted m s
+pub front_fitted : (n k : ℕ) (s : List ℕ) → n ≤ length s → (0 < k → length s ≤ n) → take n s ++ replicate k 0 ≡ fitted (n + k) s
 unfolding fitted
-front_fitted n m s h k past =
+front_fitted n k s h past =
     let l : length (take n s) ≡ n = simp length-take (omega arith) in
-    filled_all m (λ i. get_or s i 0) m _ (omega arith) (
+    filled_all (n + k) (λ i. get_or s i 0) (n + k) _ (omega arith) (
       simp (length-append, length-take, length-replicate) (omega arith),
       λ i p. ⊎_elim
           (λ q. get_or_append_left (take n s) _ 0 i (omega arith) ∙ get_or-take n s i 0 q)
-          (λ q. get_or-append_right (take n s) _ n i 0 l q ∙ get_or-replicate (m - n) (i - n) 0 0 (omega arith) ∙ sym (get_or_past s i 0 (omega arith)))
+          (λ q. get_or-append_right (take n s) _ n i 0 l q ∙ get_or-replicate k (i - n) 0 0 (omega arith) ∙ sym (get_or_past s i 0 (omega arith)))
           (cases_lt i n),
     )

@@ -6,6 +6,7 @@ ghost use Rattle.arith.specs.Rows.{Bytes, bytes_of, fitted, value};
 use crate::word::{Word, multiply};
 
 // Fills a row with the first bytes of another, and with zeros behind them where that has fewer.
+#[tactic(auto, using(crate::proofs::Places::front_fitted))]
 pub fn fit(row: &mut [u8], bytes: &[u8])
     ensures row { row.new ≡ fitted (length row.old) bytes.now }
     ensures bytes { Bytes bytes.now }

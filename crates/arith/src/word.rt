@@ -112,6 +112,7 @@ impl Word for u64 {
         u64::from_be_bytes(row)
     }
 
+    #[tactic(auto, unfolding(crate::specs::Rows::bytes_of))]
     fn to_row(self) -> [u8; 8] {
         u64::to_be_bytes(self)
     }
@@ -125,7 +126,7 @@ impl Word for u64 {
     }
 
     fn shift_up(self) -> (u64, bool) {
-        self.overflowing_add(self)
+        u64::overflowing_add(self, self)
     }
 
     fn halve(self) -> u64 {
@@ -159,6 +160,7 @@ impl Word for u128 {
         u128::from_be_bytes(row)
     }
 
+    #[tactic(auto, unfolding(crate::specs::Rows::bytes_of))]
     fn to_row(self) -> [u8; 16] {
         u128::to_be_bytes(self)
     }
@@ -172,7 +174,7 @@ impl Word for u128 {
     }
 
     fn shift_up(self) -> (u128, bool) {
-        self.overflowing_add(self)
+        u128::overflowing_add(self, self)
     }
 
     fn halve(self) -> u128 {

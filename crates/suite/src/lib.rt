@@ -1,6 +1,4 @@
-// Suites: how sectors are cut into blocks. The two suites differ in their block length.
+// Suites: how sectors are cut into blocks.
 #![tactic(auto)]
 
-pub mod long;
-pub mod short;
 pub mod suite;

@@ -1,6 +1,9 @@
 -- AES: a step of each recursion, and what the rounds read of the round keys
-use Rattle.std.proofs.Common.{◌≡◌, ℕ, zero, suc, ◌+◌, ◌-◌, ◌*◌, ◌/◌, ◌%◌, ◌<◌, true, eqb, ◌⊎◌, List, [], ◌∷◌, ◌++◌, length, get_or, take, sym, ap, ◌∙◌, inl, inr, ⊎_elim, add-one, arith}
-use Rattle.std.proofs.lemmas.List.{get_or-take}
+use Rattle.std.proofs.Common.{◌≡◌, ℕ, zero, suc, ◌+◌, ◌-◌, ◌*◌, ◌/◌, ◌%◌, ◌<◌, true, eqb, ◌⊎◌, List, [], ◌∷◌, ◌++◌, length, get_or, take, drop, sym, refl, ap, ◌∙◌, inl, inr, ⊎_elim, add-one, zero-add, arith}
+use lib.Bits.{bit_xor}
+use native.Mathlib.Nat.{mul-suc}
+use Rattle.std.proofs.lemmas.List.{get_or-take, get_or-drop, drop-drop}
+use Rattle.std.specs.Simd.{first_chunks}
 use Rattle.std.proofs.lemmas.Bool.{cases_lt, lt-ltb, eqb-true, or_cases}
 use Rattle.cipher.specs.Field.{xtime}
 use Rattle.cipher.specs.Steps.{keyed_at, add_round_key}
@@ -54,3 +57,20 @@ pub aes_scheduled : (key w s : List ℕ) → Scheduled key w → aes_by (aes_rou
 aes_scheduled key w s h =
     by_same w (round_keys key) s (aes_rounds (length key)) (omega arith)
     (λ i l. sym (get_or-take (16 * aes_rounds (length key) + 16) w i 0 l) ∙ ap (λ v. get_or v i 0) h)
+
+-- the chunk j of the first k chunks of n elements
+chunk : (n k : ℕ) (xs : List ℕ) (j : ℕ) → j < k → get_or (first_chunks n k xs) j [] ≡ take n (drop (n * j) xs)
+chunk n zero xs j h = absurd (omega arith)
+chunk n (suc k) xs zero h = let e : n * 0 ≡ 0 = omega arith in rw e refl
+chunk n (suc k) xs (suc j) h =
+    let e : n * suc j ≡ n + n * j = mul-suc n j ∙ omega arith in
+    rw e (chunk n k (drop n xs) j (omega arith) ∙ ap (take n) (drop-drop (n * j) n xs))
+
+-- the round key r of round keys that are cut into chunks
+pub round_key : (w s : List ℕ) (keys : List (List ℕ)) (m r : ℕ) → keys ≡ first_chunks 16 m w → r < m → add_round_key (get_or keys r []) 0 s ≡ add_round_key w r s
+unfolding add_round_key
+round_key w s keys m r e h =
+    let c : get_or keys r [] ≡ take 16 (drop (16 * r) w) = rw e (chunk 16 m w r h) in
+    let K = take 16 (drop (16 * r) w) in
+    rw c (by_place_same 16 (keyed_at K 0 s) (keyed_at w r s)
+    (λ k l. ap (bit_xor (get_or s k 0)) (ap (λ i. get_or K i 0) (zero-add k) ∙ get_or-take 16 (drop (16 * r) w) k 0 l ∙ get_or-drop (16 * r) w k 0)))

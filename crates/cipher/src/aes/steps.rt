@@ -1,10 +1,11 @@
 // The steps of FIPS 197: four on a state of 16 bytes, and the rounds made of them.
 ghost use Rattle.std.specs.Prelude.{◌≡◌, ◌<◌};
 ghost use Rattle.cipher.specs.Field.{xtime as doubled};
-ghost use Rattle.cipher.specs.Steps.{in_column, shifted_at, mixed_at, keyed_at, sub_bytes, shift_rows, mix_columns, add_round_key};
+ghost use Rattle.cipher.specs.Steps.{mixed, sub_bytes, shift_rows, mix_columns, add_round_key};
 ghost use Rattle.cipher.specs.Aes.{middle_round, last_round, aes_by};
 
 use crate::sbox::sub_byte;
+use std::array;
 
 // A byte times {02}.
 pub(super) fn xtime(b: u8) -> u8
@@ -17,104 +18,68 @@ pub(super) fn xtime(b: u8) -> u8
 fn sub_bytes(s: &[u8; 16]) -> [u8; 16]
     ensures { result ≡ sub_bytes s.now }
 {
-    let mut out = [0; 16];
-    for i in 0..16 {
-        out[i] = sub_byte(s[i]);
-    }
-    out
-}
-
-// The byte that comes to place i as row r moves r columns left.
-fn shift_at(s: &[u8; 16], i: usize) -> u8
-    requires { i < 16 }
-    ensures { result ≡ shifted_at s.now i }
-{
-    s[(i + 4 * (i % 4)) % 16]
+    array::from_fn(|i| sub_byte(s[i]))
 }
 
 // Each row of the state moved left by its number.
 fn shift_rows(s: &[u8; 16]) -> [u8; 16]
     ensures { result ≡ shift_rows s.now }
 {
-    let mut out = [0; 16];
-    for i in 0..16 {
-        out[i] = shift_at(s, i);
-    }
-    out
+    array::from_fn(|i| s[(i + 4 * (i % 4)) % 16])
 }
 
-// The byte j below that at place i in its column, in a ring.
-fn in_column(s: &[u8; 16], i: usize, j: usize) -> u8
-    requires { (i < 16) × (j < 4) }
-    ensures { result ≡ in_column s.now i j }
+// A byte, mixed with the three below it in its column.
+fn mix(a: u8, b: u8, c: u8, d: u8) -> u8
+    ensures { result ≡ mixed a b c d }
 {
-    s[i / 4 * 4 + (i + j) % 4]
-}
-
-// The byte at place i, mixed with those of its column.
-fn mix_at(s: &[u8; 16], i: usize) -> u8
-    requires { i < 16 }
-    ensures { result ≡ mixed_at s.now i }
-{
-    let b = in_column(s, i, 1);
-    xtime(in_column(s, i, 0)) ^ xtime(b) ^ b ^ in_column(s, i, 2) ^ in_column(s, i, 3)
+    xtime(a) ^ xtime(b) ^ b ^ c ^ d
 }
 
 // Each column mixed.
 fn mix_columns(s: &[u8; 16]) -> [u8; 16]
     ensures { result ≡ mix_columns s.now }
 {
-    let mut out = [0; 16];
-    for i in 0..16 {
-        out[i] = mix_at(s, i);
-    }
-    out
+    array::from_fn(|i| {
+        let top = i / 4 * 4;
+        mix(
+            s[top + i % 4],
+            s[top + (i + 1) % 4],
+            s[top + (i + 2) % 4],
+            s[top + (i + 3) % 4],
+        )
+    })
 }
 
-// The byte at place i plus that of the round key r.
-fn key_at(w: &[u8; 240], r: usize, s: &[u8; 16], i: usize) -> u8
-    requires { (r < 15) × (i < 16) }
-    ensures { result ≡ keyed_at w.now r s.now i }
+// The state plus a round key.
+fn add_round_key(k: &[u8; 16], s: &[u8; 16]) -> [u8; 16]
+    ensures { result ≡ add_round_key k.now 0 s.now }
 {
-    s[i] ^ w[16 * r + i]
+    array::from_fn(|i| s[i] ^ k[i])
 }
 
-// The state plus the round key r.
-fn add_round_key(w: &[u8; 240], r: usize, s: &[u8; 16]) -> [u8; 16]
-    requires { r < 15 }
-    ensures { result ≡ add_round_key w.now r s.now }
+// A round that is not the last, under its round key.
+fn middle_round(k: &[u8; 16], s: &[u8; 16]) -> [u8; 16]
+    ensures { result ≡ middle_round k.now 0 s.now }
 {
-    let mut out = [0; 16];
-    for i in 0..16 {
-        out[i] = key_at(w, r, s, i);
-    }
-    out
+    add_round_key(k, &mix_columns(&shift_rows(&sub_bytes(s))))
 }
 
-// Round r, where it is not the last.
-fn middle_round(w: &[u8; 240], r: usize, s: &[u8; 16]) -> [u8; 16]
-    requires { r < 15 }
-    ensures { result ≡ middle_round w.now r s.now }
+// The last round, which mixes no columns, under its round key.
+fn last_round(k: &[u8; 16], s: &[u8; 16]) -> [u8; 16]
+    ensures { result ≡ last_round k.now 0 s.now }
 {
-    add_round_key(w, r, &mix_columns(&shift_rows(&sub_bytes(s))))
+    add_round_key(k, &shift_rows(&sub_bytes(s)))
 }
 
-// The last round, r, which mixes no columns.
-fn last_round(w: &[u8; 240], r: usize, s: &[u8; 16]) -> [u8; 16]
-    requires { r < 15 }
-    ensures { result ≡ last_round w.now r s.now }
-{
-    add_round_key(w, r, &shift_rows(&sub_bytes(s)))
-}
-
-// A block through all rounds.
+// A block through all rounds of these round keys, one after the other.
 pub(super) fn encrypt_by(w: &[u8; 240], rounds: usize, block: &[u8; 16]) -> [u8; 16]
     requires { (0 < rounds) × (rounds < 15) }
     ensures { result ≡ aes_by rounds w.now block.now }
 {
-    let mut s = add_round_key(w, 0, block);
-    for r in 1..rounds {
-        s = middle_round(w, r, &s);
+    let (keys, _) = w.as_chunks::<16>();
+    let mut s = add_round_key(&keys[0], block);
+    for k in &keys[1..rounds] {
+        s = middle_round(k, &s);
     }
-    last_round(w, rounds, &s)
+    last_round(&keys[rounds], &s)
 }

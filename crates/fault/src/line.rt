@@ -1,11 +1,15 @@
 // The refusals of a listing and of a loading, and the reel's as a loading passes them up.
 ghost use Rattle.std.specs.Prelude.{◌≡◌};
-ghost use Rattle.fault.specs.Faults.{line_report};
+ghost use Rattle.fault.specs.declared.layer.Layer.TheVariants.{Lines};
 ghost use Rattle.fault.specs.declared.line.LineCause.TheVariants.{Reel};
+ghost use Rattle.fault.specs.Faults.{line_report};
+ghost use Rattle.fault.specs.Numbers.{line_numbered};
+ghost use Rattle.std.proofs.Common.{rules};
 
 use crate::layer::Layer;
 use crate::reel::ReelFault;
-use crate::report::Report;
+use crate::report::{Fault, Report};
+use std::error::Error;
 use std::fmt;
 
 // Why a line is not loaded or not written.
@@ -33,11 +37,17 @@ impl From<ReelFault> for LineCause {
     }
 }
 
-impl LineFault {
-    // The number is that of the lowest fault; layer and place are the line's own.
-    pub fn report(&self) -> Report
-        ensures { result ≡ line_report self.now }
-    {
+// The number is that of the lowest fault; layer and place are the line's own.
+impl Fault for LineFault {
+    ghost tells = { line_report };
+
+    ghost layer = { Lines };
+
+    ghost of_its_layer = { Prim.search rules };
+
+    ghost numbered = { λ e. line_numbered e.cause };
+
+    fn report(&self) -> Report {
         let number = match self.cause {
             LineCause::NotALine => 11,
             LineCause::NotDigits => 12,
@@ -53,25 +63,30 @@ impl LineFault {
     }
 }
 
-// What an operator is told of a refusal that begins in a line.
-fn line_words(cause: LineCause) -> &'static str {
-    match cause {
-        LineCause::NotALine => "cut short, too long, or without a line feed",
-        LineCause::NotDigits => "not digits 0-9 and A-F with a space after the first eight",
-        LineCause::NotAbove => "the address is not above that of the line before",
-        LineCause::NoRoom => "the area has no room for it",
-        LineCause::Reel(_) => "the reel refused",
+// What an operator is told: the reel's fault as the reel tells it.
+impl fmt::Display for LineCause {
+    fn fmt<W: fmt::Write>(&self, f: &mut fmt::Formatter<W>) -> fmt::Result {
+        match self {
+            LineCause::NotALine => f.write_str("cut short, too long, or without a line feed"),
+            LineCause::NotDigits => f.write_str(
+                "not digits 0-9 and A-F with a space after the first eight",
+            ),
+            LineCause::NotAbove => f.write_str("the address is not above that of the line before"),
+            LineCause::NoRoom => f.write_str("the area has no room for it"),
+            LineCause::Reel(fault) => fault.fmt(f),
+        }
     }
 }
 
 impl fmt::Display for LineFault {
     fn fmt<W: fmt::Write>(&self, f: &mut fmt::Formatter<W>) -> fmt::Result {
-        let line = self.line;
-        let words = line_words(self.cause);
+        let LineFault { cause, line } = self;
         let report = self.report();
-        match self.cause {
-            LineCause::Reel(fault) => write!(f, "line {line}: {fault}; {report}"),
-            _ => write!(f, "line {line}: {words} ({report})"),
+        match cause {
+            LineCause::Reel(_) => write!(f, "line {line}: {cause}; {report}"),
+            _ => write!(f, "line {line}: {cause} ({report})"),
         }
     }
 }
+
+impl Error for LineFault {}

@@ -6,14 +6,16 @@ ghost use Rattle.std.proofs.Common.{rules};
 
 use crate::layer::Layer;
 use crate::report::{Fault, Report};
-use std::error::Error;
-use std::fmt;
+use thiserror::Error;
 
-// Why keys are not made of the bytes given.
-#[derive(Clone, Copy, PartialEq, Eq, Debug)]
+// Why keys are not made of the bytes given, and what an operator is told.
+#[derive(Clone, Copy, PartialEq, Eq, Debug, Error)]
 pub enum KeyFault {
+    #[error("the suite has no cipher keys of this length: hand over one that it has ({})", self.report())]
     CipherKeyLength = 2,
+    #[error("a hash key is as long as a block of the suite: hand over as many bytes ({})", self.report())]
     HashKeyLength = 3,
+    #[error("a hash key of zeros only is none: make another ({})", self.report())]
     ZeroHashKey = 4,
 }
 
@@ -34,20 +36,3 @@ impl Fault for KeyFault {
         }
     }
 }
-
-// What an operator is told.
-impl fmt::Display for KeyFault {
-    fn fmt<W: fmt::Write>(&self, f: &mut fmt::Formatter<W>) -> fmt::Result {
-        let words = match self {
-            KeyFault::CipherKeyLength =>
-                "the suite has no cipher keys of this length: hand over one that it has",
-            KeyFault::HashKeyLength =>
-                "a hash key is as long as a block of the suite: hand over as many bytes",
-            KeyFault::ZeroHashKey => "a hash key of zeros only is none: make another",
-        };
-        let report = self.report();
-        write!(f, "{words} ({report})")
-    }
-}
-
-impl Error for KeyFault {}

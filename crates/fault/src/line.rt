@@ -9,16 +9,21 @@ ghost use Rattle.std.proofs.Common.{rules};
 use crate::layer::Layer;
 use crate::reel::ReelFault;
 use crate::report::{Fault, Report};
-use std::error::Error;
 use std::fmt;
+use thiserror::Error;
 
-// Why a line is not loaded or not written.
-#[derive(Clone, Copy, PartialEq, Eq, Debug)]
+// Why a line is not loaded or not written, and what an operator is told: of a reel's fault what the reel says.
+#[derive(Clone, Copy, PartialEq, Eq, Debug, Error)]
 pub enum LineCause {
+    #[error("cut short, too long, or without a line feed")]
     NotALine,
+    #[error("not digits 0-9 and A-F with a space after the first eight")]
     NotDigits,
+    #[error("the address is not above that of the line before")]
     NotAbove,
+    #[error("the area has no room for it")]
     NoRoom,
+    #[error(transparent)]
     Reel(ReelFault),
 }
 
@@ -63,21 +68,6 @@ impl Fault for LineFault {
     }
 }
 
-// What an operator is told: the reel's fault as the reel tells it.
-impl fmt::Display for LineCause {
-    fn fmt<W: fmt::Write>(&self, f: &mut fmt::Formatter<W>) -> fmt::Result {
-        match self {
-            LineCause::NotALine => f.write_str("cut short, too long, or without a line feed"),
-            LineCause::NotDigits => f.write_str(
-                "not digits 0-9 and A-F with a space after the first eight",
-            ),
-            LineCause::NotAbove => f.write_str("the address is not above that of the line before"),
-            LineCause::NoRoom => f.write_str("the area has no room for it"),
-            LineCause::Reel(fault) => fault.fmt(f),
-        }
-    }
-}
-
 impl fmt::Display for LineFault {
     fn fmt<W: fmt::Write>(&self, f: &mut fmt::Formatter<W>) -> fmt::Result {
         let LineFault { cause, line } = self;
@@ -89,4 +79,4 @@ impl fmt::Display for LineFault {
     }
 }
 
-impl Error for LineFault {}
+impl std::error::Error for LineFault {}

@@ -8,15 +8,19 @@ ghost use Rattle.std.proofs.Common.{rules};
 use crate::layer::Layer;
 use crate::report::{Fault, Report};
 use crate::stock::StockFault;
-use std::error::Error;
 use std::fmt;
+use thiserror::Error;
 
-// Why a reel turns a call away.
-#[derive(Clone, Copy, PartialEq, Eq, Debug)]
+// Why a reel turns a call away, and what an operator is told: of a stock's fault what the stock says.
+#[derive(Clone, Copy, PartialEq, Eq, Debug, Error)]
 pub enum ReelCause {
+    #[error("frames of this length are not 2 to 513 whole blocks: use the other suite")]
     NotBlocks,
+    #[error("there is no such address: choose one below the number of slots")]
     NoAddress,
+    #[error("the row or area is not of the right length")]
     WrongArea,
+    #[error(transparent)]
     Stock(StockFault),
 }
 
@@ -64,22 +68,6 @@ impl Fault for ReelFault {
     }
 }
 
-// What an operator is told: the stock's fault as the stock tells it.
-impl fmt::Display for ReelCause {
-    fn fmt<W: fmt::Write>(&self, f: &mut fmt::Formatter<W>) -> fmt::Result {
-        match self {
-            ReelCause::NotBlocks => f.write_str(
-                "frames of this length are not 2 to 513 whole blocks: use the other suite",
-            ),
-            ReelCause::NoAddress => f.write_str(
-                "there is no such address: choose one below the number of slots",
-            ),
-            ReelCause::WrongArea => f.write_str("the row or area is not of the right length"),
-            ReelCause::Stock(fault) => fault.fmt(f),
-        }
-    }
-}
-
 impl fmt::Display for ReelFault {
     fn fmt<W: fmt::Write>(&self, f: &mut fmt::Formatter<W>) -> fmt::Result {
         let ReelFault { cause, address } = self;
@@ -91,4 +79,4 @@ impl fmt::Display for ReelFault {
     }
 }
 
-impl Error for ReelFault {}
+impl std::error::Error for ReelFault {}

@@ -6,13 +6,14 @@ ghost use Rattle.std.proofs.Common.{rules};
 
 use crate::layer::Layer;
 use crate::report::{Fault, Report};
-use std::error::Error;
-use std::fmt;
+use thiserror::Error;
 
-// Why a frame size or a bad-slot list is not made.
-#[derive(Clone, Copy, PartialEq, Eq, Debug)]
+// Why a frame size or a bad-slot list is not made, and what an operator is told.
+#[derive(Clone, Copy, PartialEq, Eq, Debug, Error)]
 pub enum ShapeFault {
+    #[error("a frame has 16 to 8208 bytes: choose such a length ({})", self.report())]
     FrameSize = 1,
+    #[error("a bad-slot list holds 16 slots: replace a medium that has more ({})", self.report())]
     ListFull = 15,
 }
 
@@ -33,18 +34,3 @@ impl Fault for ShapeFault {
         }
     }
 }
-
-// What an operator is told.
-impl fmt::Display for ShapeFault {
-    fn fmt<W: fmt::Write>(&self, f: &mut fmt::Formatter<W>) -> fmt::Result {
-        let words = match self {
-            ShapeFault::FrameSize => "a frame has 16 to 8208 bytes: choose such a length",
-            ShapeFault::ListFull =>
-                "a bad-slot list holds 16 slots: replace a medium that has more",
-        };
-        let report = self.report();
-        write!(f, "{words} ({report})")
-    }
-}
-
-impl Error for ShapeFault {}

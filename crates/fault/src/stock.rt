@@ -6,20 +6,24 @@ ghost use Rattle.std.proofs.Common.{rules};
 
 use crate::layer::Layer;
 use crate::report::{Fault, Report};
-use std::error::Error;
-use std::fmt;
+use thiserror::Error;
 
-// Why a stock turns a call away.
-#[derive(Clone, Copy, PartialEq, Eq, Debug)]
+// Why a stock turns a call away, and what an operator is told of the slot.
+#[derive(Clone, Copy, PartialEq, Eq, Debug, Error)]
 pub enum StockCause {
+    #[error("does not exist: choose one below the number of slots")]
     NoSlot = 6,
+    #[error("takes and gives rows of one frame: hand over as many bytes")]
     WrongLength = 7,
+    #[error("is bad: use another")]
     BadSlot = 8,
+    #[error("is blank: there is no frame to get")]
     BlankSlot = 9,
 }
 
 // A refusal of a stock: the cause, and the slot that the call was for.
-#[derive(Clone, Copy, PartialEq, Eq, Debug)]
+#[derive(Clone, Copy, PartialEq, Eq, Debug, Error)]
+#[error("slot {slot} {cause} ({})", self.report())]
 pub struct StockFault {
     pub cause: StockCause,
     pub slot: u64,
@@ -42,25 +46,3 @@ impl Fault for StockFault {
         }
     }
 }
-
-// What an operator is told of a slot.
-impl fmt::Display for StockCause {
-    fn fmt<W: fmt::Write>(&self, f: &mut fmt::Formatter<W>) -> fmt::Result {
-        f.write_str(match self {
-            StockCause::NoSlot => "does not exist: choose one below the number of slots",
-            StockCause::WrongLength => "takes and gives rows of one frame: hand over as many bytes",
-            StockCause::BadSlot => "is bad: use another",
-            StockCause::BlankSlot => "is blank: there is no frame to get",
-        })
-    }
-}
-
-impl fmt::Display for StockFault {
-    fn fmt<W: fmt::Write>(&self, f: &mut fmt::Formatter<W>) -> fmt::Result {
-        let StockFault { cause, slot } = self;
-        let report = self.report();
-        write!(f, "slot {slot} {cause} ({report})")
-    }
-}
-
-impl Error for StockFault {}

@@ -1,2 +1,3 @@
 pub mod Layers
 pub mod Faults
+pub mod Numbers

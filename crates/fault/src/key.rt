@@ -1,51 +1,38 @@
 // The refusals of keys.
-ghost use Rattle.std.specs.Prelude.{◌≡◌};
+ghost use Rattle.fault.specs.declared.layer.Layer.TheVariants.{Parameters};
 ghost use Rattle.fault.specs.Faults.{key_report};
+ghost use Rattle.fault.specs.Numbers.{key_numbered};
+ghost use Rattle.std.proofs.Common.{rules};
 
 use crate::layer::Layer;
-use crate::report::Report;
-use std::fmt;
+use crate::report::{Fault, Report};
+use thiserror::Error;
 
-// Why keys are not made of the bytes given.
-#[derive(Clone, Copy, PartialEq, Eq, Debug)]
+// Why keys are not made of the bytes given, and what an operator is told.
+#[derive(Clone, Copy, PartialEq, Eq, Debug, Error)]
 pub enum KeyFault {
-    CipherKeyLength,
-    HashKeyLength,
-    ZeroHashKey,
+    #[error("the suite has no cipher keys of this length: hand over one that it has ({})", self.report())]
+    CipherKeyLength = 2,
+    #[error("a hash key is as long as a block of the suite: hand over as many bytes ({})", self.report())]
+    HashKeyLength = 3,
+    #[error("a hash key of zeros only is none: make another ({})", self.report())]
+    ZeroHashKey = 4,
 }
 
-impl KeyFault {
-    pub fn report(&self) -> Report
-        ensures { result ≡ key_report self.now }
-    {
-        let number = match self {
-            KeyFault::CipherKeyLength => 2,
-            KeyFault::HashKeyLength => 3,
-            KeyFault::ZeroHashKey => 4,
-        };
+impl Fault for KeyFault {
+    ghost tells = { key_report };
+
+    ghost layer = { Parameters };
+
+    ghost of_its_layer = { Prim.search rules };
+
+    ghost numbered = { key_numbered };
+
+    fn report(&self) -> Report {
         Report {
-            number,
+            number: *self as u8,
             layer: Layer::Parameters,
             place: 0,
         }
-    }
-}
-
-// What an operator is told.
-fn key_words(fault: KeyFault) -> &'static str {
-    match fault {
-        KeyFault::CipherKeyLength =>
-            "the suite has no cipher keys of this length: hand over one that it has",
-        KeyFault::HashKeyLength =>
-            "a hash key is as long as a block of the suite: hand over as many bytes",
-        KeyFault::ZeroHashKey => "a hash key of zeros only is none: make another",
-    }
-}
-
-impl fmt::Display for KeyFault {
-    fn fmt<W: fmt::Write>(&self, f: &mut fmt::Formatter<W>) -> fmt::Result {
-        let words = key_words(*self);
-        let report = self.report();
-        write!(f, "{words} ({report})")
     }
 }

@@ -1,20 +1,29 @@
 // The refusals of a listing and of a loading, and the reel's as a loading passes them up.
 ghost use Rattle.std.specs.Prelude.{◌≡◌};
-ghost use Rattle.fault.specs.Faults.{line_report};
+ghost use Rattle.fault.specs.declared.layer.Layer.TheVariants.{Lines};
 ghost use Rattle.fault.specs.declared.line.LineCause.TheVariants.{Reel};
+ghost use Rattle.fault.specs.Faults.{line_report};
+ghost use Rattle.fault.specs.Numbers.{line_numbered};
+ghost use Rattle.std.proofs.Common.{rules};
 
 use crate::layer::Layer;
 use crate::reel::ReelFault;
-use crate::report::Report;
+use crate::report::{Fault, Report};
 use std::fmt;
+use thiserror::Error;
 
-// Why a line is not loaded or not written.
-#[derive(Clone, Copy, PartialEq, Eq, Debug)]
+// Why a line is not loaded or not written, and what an operator is told: of a reel's fault what the reel says.
+#[derive(Clone, Copy, PartialEq, Eq, Debug, Error)]
 pub enum LineCause {
+    #[error("cut short, too long, or without a line feed")]
     NotALine,
+    #[error("not digits 0-9 and A-F with a space after the first eight")]
     NotDigits,
+    #[error("the address is not above that of the line before")]
     NotAbove,
+    #[error("the area has no room for it")]
     NoRoom,
+    #[error(transparent)]
     Reel(ReelFault),
 }
 
@@ -33,11 +42,17 @@ impl From<ReelFault> for LineCause {
     }
 }
 
-impl LineFault {
-    // The number is that of the lowest fault; layer and place are the line's own.
-    pub fn report(&self) -> Report
-        ensures { result ≡ line_report self.now }
-    {
+// The number is that of the lowest fault; layer and place are the line's own.
+impl Fault for LineFault {
+    ghost tells = { line_report };
+
+    ghost layer = { Lines };
+
+    ghost of_its_layer = { Prim.search rules };
+
+    ghost numbered = { λ e. line_numbered e.cause };
+
+    fn report(&self) -> Report {
         let number = match self.cause {
             LineCause::NotALine => 11,
             LineCause::NotDigits => 12,
@@ -53,25 +68,15 @@ impl LineFault {
     }
 }
 
-// What an operator is told of a refusal that begins in a line.
-fn line_words(cause: LineCause) -> &'static str {
-    match cause {
-        LineCause::NotALine => "cut short, too long, or without a line feed",
-        LineCause::NotDigits => "not digits 0-9 and A-F with a space after the first eight",
-        LineCause::NotAbove => "the address is not above that of the line before",
-        LineCause::NoRoom => "the area has no room for it",
-        LineCause::Reel(_) => "the reel refused",
-    }
-}
-
 impl fmt::Display for LineFault {
     fn fmt<W: fmt::Write>(&self, f: &mut fmt::Formatter<W>) -> fmt::Result {
-        let line = self.line;
-        let words = line_words(self.cause);
+        let LineFault { cause, line } = self;
         let report = self.report();
-        match self.cause {
-            LineCause::Reel(fault) => write!(f, "line {line}: {fault}; {report}"),
-            _ => write!(f, "line {line}: {words} ({report})"),
+        match cause {
+            LineCause::Reel(_) => write!(f, "line {line}: {cause}; {report}"),
+            _ => write!(f, "line {line}: {cause} ({report})"),
         }
     }
 }
+
+impl std::error::Error for LineFault {}

@@ -1,18 +1,26 @@
 // The refusals of a reel, and the stock's as a reel passes them up.
 ghost use Rattle.std.specs.Prelude.{◌≡◌};
+ghost use Rattle.fault.specs.declared.layer.Layer.TheVariants.{Reel};
 ghost use Rattle.fault.specs.Faults.{passed_up, reel_report};
+ghost use Rattle.fault.specs.Numbers.{reel_numbered};
+ghost use Rattle.std.proofs.Common.{rules};
 
 use crate::layer::Layer;
-use crate::report::Report;
+use crate::report::{Fault, Report};
 use crate::stock::StockFault;
 use std::fmt;
+use thiserror::Error;
 
-// Why a reel turns a call away.
-#[derive(Clone, Copy, PartialEq, Eq, Debug)]
+// Why a reel turns a call away, and what an operator is told: of a stock's fault what the stock says.
+#[derive(Clone, Copy, PartialEq, Eq, Debug, Error)]
 pub enum ReelCause {
+    #[error("frames of this length are not 2 to 513 whole blocks: use the other suite")]
     NotBlocks,
+    #[error("there is no such address: choose one below the number of slots")]
     NoAddress,
+    #[error("the row or area is not of the right length")]
     WrongArea,
+    #[error(transparent)]
     Stock(StockFault),
 }
 
@@ -35,11 +43,17 @@ impl From<StockFault> for ReelFault {
     }
 }
 
-impl ReelFault {
-    // The number is that of the lowest fault; layer and place are the reel's own.
-    pub fn report(&self) -> Report
-        ensures { result ≡ reel_report self.now }
-    {
+// The number is that of the lowest fault; layer and place are the reel's own.
+impl Fault for ReelFault {
+    ghost tells = { reel_report };
+
+    ghost layer = { Reel };
+
+    ghost of_its_layer = { Prim.search rules };
+
+    ghost numbered = { λ e. reel_numbered e.cause };
+
+    fn report(&self) -> Report {
         let number = match self.cause {
             ReelCause::NotBlocks => 5,
             ReelCause::NoAddress => 6,
@@ -54,25 +68,15 @@ impl ReelFault {
     }
 }
 
-// What an operator is told of a refusal that begins in the reel.
-fn reel_words(cause: ReelCause) -> &'static str {
-    match cause {
-        ReelCause::NotBlocks =>
-            "frames of this length are not 2 to 513 whole blocks: use the other suite",
-        ReelCause::NoAddress => "there is no such address: choose one below the number of slots",
-        ReelCause::WrongArea => "the row or area is not of the right length",
-        ReelCause::Stock(_) => "the stock refused",
-    }
-}
-
 impl fmt::Display for ReelFault {
     fn fmt<W: fmt::Write>(&self, f: &mut fmt::Formatter<W>) -> fmt::Result {
-        let address = self.address;
-        let words = reel_words(self.cause);
+        let ReelFault { cause, address } = self;
         let report = self.report();
-        match self.cause {
-            ReelCause::Stock(fault) => write!(f, "address {address}: {fault}; {report}"),
-            _ => write!(f, "address {address}: {words} ({report})"),
+        match cause {
+            ReelCause::Stock(_) => write!(f, "address {address}: {cause}; {report}"),
+            _ => write!(f, "address {address}: {cause} ({report})"),
         }
     }
 }
+
+impl std::error::Error for ReelFault {}

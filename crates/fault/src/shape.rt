@@ -1,46 +1,36 @@
 // The refusals of what a stock is made from.
-ghost use Rattle.std.specs.Prelude.{◌≡◌};
+ghost use Rattle.fault.specs.declared.layer.Layer.TheVariants.{Parameters};
 ghost use Rattle.fault.specs.Faults.{shape_report};
+ghost use Rattle.fault.specs.Numbers.{shape_numbered};
+ghost use Rattle.std.proofs.Common.{rules};
 
 use crate::layer::Layer;
-use crate::report::Report;
-use std::fmt;
+use crate::report::{Fault, Report};
+use thiserror::Error;
 
-// Why a frame size or a bad-slot list is not made.
-#[derive(Clone, Copy, PartialEq, Eq, Debug)]
+// Why a frame size or a bad-slot list is not made, and what an operator is told.
+#[derive(Clone, Copy, PartialEq, Eq, Debug, Error)]
 pub enum ShapeFault {
-    FrameSize,
-    ListFull,
+    #[error("a frame has 16 to 8208 bytes: choose such a length ({})", self.report())]
+    FrameSize = 1,
+    #[error("a bad-slot list holds 16 slots: replace a medium that has more ({})", self.report())]
+    ListFull = 15,
 }
 
-impl ShapeFault {
-    pub fn report(&self) -> Report
-        ensures { result ≡ shape_report self.now }
-    {
-        let number = match self {
-            ShapeFault::FrameSize => 1,
-            ShapeFault::ListFull => 15,
-        };
+impl Fault for ShapeFault {
+    ghost tells = { shape_report };
+
+    ghost layer = { Parameters };
+
+    ghost of_its_layer = { Prim.search rules };
+
+    ghost numbered = { shape_numbered };
+
+    fn report(&self) -> Report {
         Report {
-            number,
+            number: *self as u8,
             layer: Layer::Parameters,
             place: 0,
         }
-    }
-}
-
-// What an operator is told.
-fn shape_words(fault: ShapeFault) -> &'static str {
-    match fault {
-        ShapeFault::FrameSize => "a frame has 16 to 8208 bytes: choose such a length",
-        ShapeFault::ListFull => "a bad-slot list holds 16 slots: replace a medium that has more",
-    }
-}
-
-impl fmt::Display for ShapeFault {
-    fn fmt<W: fmt::Write>(&self, f: &mut fmt::Formatter<W>) -> fmt::Result {
-        let words = shape_words(*self);
-        let report = self.report();
-        write!(f, "{words} ({report})")
     }
 }

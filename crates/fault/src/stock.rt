@@ -1,60 +1,48 @@
 // The refusals of a stock.
-ghost use Rattle.std.specs.Prelude.{◌≡◌};
+ghost use Rattle.fault.specs.declared.layer.Layer.TheVariants.{Stock};
 ghost use Rattle.fault.specs.Faults.{stock_report};
+ghost use Rattle.fault.specs.Numbers.{stock_numbered};
+ghost use Rattle.std.proofs.Common.{rules};
 
 use crate::layer::Layer;
-use crate::report::Report;
-use std::fmt;
+use crate::report::{Fault, Report};
+use thiserror::Error;
 
-// Why a stock turns a call away.
-#[derive(Clone, Copy, PartialEq, Eq, Debug)]
+// Why a stock turns a call away, and what an operator is told of the slot.
+#[derive(Clone, Copy, PartialEq, Eq, Debug, Error)]
 pub enum StockCause {
-    NoSlot,
-    WrongLength,
-    BadSlot,
-    BlankSlot,
+    #[error("does not exist: choose one below the number of slots")]
+    NoSlot = 6,
+    #[error("takes and gives rows of one frame: hand over as many bytes")]
+    WrongLength = 7,
+    #[error("is bad: use another")]
+    BadSlot = 8,
+    #[error("is blank: there is no frame to get")]
+    BlankSlot = 9,
 }
 
 // A refusal of a stock: the cause, and the slot that the call was for.
-#[derive(Clone, Copy, PartialEq, Eq, Debug)]
+#[derive(Clone, Copy, PartialEq, Eq, Debug, Error)]
+#[error("slot {slot} {cause} ({})", self.report())]
 pub struct StockFault {
     pub cause: StockCause,
     pub slot: u64,
 }
 
-impl StockFault {
-    pub fn report(&self) -> Report
-        ensures { result ≡ stock_report self.now }
-    {
-        let number = match self.cause {
-            StockCause::NoSlot => 6,
-            StockCause::WrongLength => 7,
-            StockCause::BadSlot => 8,
-            StockCause::BlankSlot => 9,
-        };
+impl Fault for StockFault {
+    ghost tells = { stock_report };
+
+    ghost layer = { Stock };
+
+    ghost of_its_layer = { Prim.search rules };
+
+    ghost numbered = { λ e. stock_numbered e.cause };
+
+    fn report(&self) -> Report {
         Report {
-            number,
+            number: self.cause as u8,
             layer: Layer::Stock,
             place: self.slot,
         }
-    }
-}
-
-// What an operator is told of a slot.
-fn stock_words(cause: StockCause) -> &'static str {
-    match cause {
-        StockCause::NoSlot => "does not exist: choose one below the number of slots",
-        StockCause::WrongLength => "takes and gives rows of one frame: hand over as many bytes",
-        StockCause::BadSlot => "is bad: use another",
-        StockCause::BlankSlot => "is blank: there is no frame to get",
-    }
-}
-
-impl fmt::Display for StockFault {
-    fn fmt<W: fmt::Write>(&self, f: &mut fmt::Formatter<W>) -> fmt::Result {
-        let slot = self.slot;
-        let words = stock_words(self.cause);
-        let report = self.report();
-        write!(f, "slot {slot} {words} ({report})")
     }
 }

@@ -8,6 +8,7 @@ ghost use Rattle.frames.specs.Refusals.{refusal_number};
 ghost use Rattle.frames.specs.Filters.{blank_book, Filtered};
 
 use fault::line::LineFault;
+use fault::report::Fault;
 use flat::flat::FlatStock;
 use listing::list::list_frames;
 use listing::load::load_listing;

@@ -1,5 +1,6 @@
 // The two suites: keys, blocks and tallies.
 use ciphersuite::cipher_suite::CipherSuite;
+use fault::report::Fault;
 use std::process::Abort;
 use std::test::Fail;
 use suites::long::LongSuite;

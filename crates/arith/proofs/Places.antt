@@ -4,7 +4,7 @@ use Rattle.std.proofs.lemmas.List.{ext_get_or, get_or_append_left, get_or-append
 use Rattle.std.proofs.lemmas.Bool.{cases_lt}
 use Rattle.std.proofs.lemmas.List.Edits.{fill_by_more}
 use Rattle.std.proofs.lemmas.List.FromFn.{fill_by_all, length-map-range_with_len, get_or-map-range_with_len}
-use Rattle.arith.specs.Rows.{Bytes, Row, by_place, fitted}
+use Rattle.arith.specs.Rows.{Row, by_place, fitted}
 
 -- a row of n numbers, of which those below i are given by f
 abbrev pub Filled : ℕ → (ℕ → ℕ) → ℕ → List ℕ → Type 0
@@ -34,15 +34,7 @@ by_place_back n f g e k l = sym (get_or-by_place n f k l) ∙ ap (λ s. get_or s
 pub by_place_same : (n : ℕ) (f g : ℕ → ℕ) → ((k : ℕ) → k < n → f k ≡ g k) → by_place n f ≡ by_place n g
 by_place_same n f g h = filled_all n g n (by_place n f) (omega arith) (length_by_place n f, λ k l. get_or-by_place n f k l ∙ h k l)
 
--- what is fitted: its length, its bytes, and the row itself in front
-pub length_fitted : (n : ℕ) (s : List ℕ) → length (fitted n s) ≡ n
-unfolding fitted
-length_fitted n s = length_by_place n (λ i. get_or s i 0)
-
-pub fitted_row : (n : ℕ) (s : List ℕ) → Bytes s → Row n (fitted n s)
-unfolding fitted
-fitted_row n s h = row_by_place n (λ i. get_or s i 0) (λ k l. h k)
-
+-- what is fitted has the row itself in front, and is the row where the lengths are the same
 pub take_fitted : (n : ℕ) (s : List ℕ) → length s ≤ n → take (length s) (fitted n s) ≡ s
 unfolding fitted
 take_fitted n s h =

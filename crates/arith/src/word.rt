@@ -41,18 +41,15 @@ pub trait Word: Copy {
     // One place up, and whether a 1 falls out.
     fn shift_up(self) -> (Self, bool)
         ensures word { value result.0 ≡ value self * 2 % 2 ^ BITS }
-        ensures falls_out { FalseIff result.1 (value self * 2 < 2 ^ BITS) };
+        ensures carry { FalseIff result.1 (value self * 2 < 2 ^ BITS) };
 
     // One place up; where a 1 falls out, the constant is added.
     fn double(self) -> Self
         ensures { value result ≡ doubled BITS (value CONSTANT) (value self) }
     {
-        let (up, falls_out) = self.shift_up();
-        if falls_out {
-            up.add(Self::CONSTANT)
-        } else {
-            up
-        }
+        let (up, carry) = self.shift_up();
+        let added = if carry { Self::CONSTANT } else { Self::zero() };
+        up.add(added)
     }
 
     // One place down; the lowest bit is dropped.

@@ -14,8 +14,10 @@ pub struct FrameSize {
 }
 
 impl FrameSize {
+    // The least frame length, in bytes.
     pub const LEAST: usize = 16;
 
+    // The greatest, in bytes.
     pub const MOST: usize = 8208;
 
     pub fn new(bytes: usize) -> Result<FrameSize, ShapeFault>

@@ -28,7 +28,7 @@ pub(crate) fn fill_slot(slot: &mut [u8], bytes: &[u8])
     ensures { slot.new ≡ 1 ∷ bytes.now }
 {
     let Some((mark, frame)) = slot.split_first_mut() else {
-        return;
+        unreachable!();
     };
     *mark = FILLED;
     frame.copy_from_slice(bytes);

@@ -1,8 +1,9 @@
 -- An area with bytes written into it, one byte or a row at a time. Assumes nothing.
-use Rattle.std.proofs.Common.{◌≡◌, ℕ, ◌+◌, ◌<◌, ◌≤◌, ◌⊎◌, List, ◌++◌, length, get_or, take, drop, sym, ap, ◌∙◌, inl, inr, arith, rules}
+use Rattle.std.proofs.Common.{◌≡◌, ℕ, suc, ◌+◌, ◌<◌, ◌≤◌, ◌⊎◌, List, [], ◌∷◌, ◌++◌, length, get_or, set, append_assoc, take, drop, sym, ap, ◌∙◌, inl, inr, arith, rules}
 use borrow.Rule.Slice.PartMut.{put_mid}
-use Rattle.std.proofs.lemmas.List.{places, drop-drop, get_or-take, get_or-drop, length-take-le, length-take, length-drop, ext_get_or, take_at, drop_at}
-use Rattle.stock.specs.Areas.{written}
+use Rattle.std.proofs.lemmas.List.{places, drop-drop, get_or-take, get_or-drop, length-take-le, length-take, length-drop, ext_get_or, take_at, drop_at, take_more}
+use Rattle.std.proofs.Math.Seq.{set-append_seam, drop-cons}
+use Rattle.stock.specs.Areas.{written, row_at}
 
 pub written_mid : (at k : ℕ) (bs ps area : List ℕ) → ps ≡ bs → k ≡ length bs → put_mid at k area ps ≡ written at bs area
 written_mid at k bs ps area e l = ap (put_mid at k area) e ∙ (ap (λ z. put_mid at z area bs) l ∙ ap (λ z. take at area ++ (bs ++ z)) (drop-drop (length bs) at area))
@@ -28,3 +29,20 @@ same_row n at xs ys h len same =
     let hy : at + n ≤ length ys = omega arith in
     let ly = row_long n at ys hy in
     ext_get_or 0 _ _ (ly ∙ sym (row_long n at xs h)) (λ i hi. let hn : i < n = omega arith in simp (get_or-take, get_or-drop) (same (at + i) (omega arith) (omega arith)))
+
+-- a byte and then bytes written where it stands: the bytes are written behind it, and then the byte is set
+pub written_behind : (at m : ℕ) (bs area : List ℕ) → at + 1 + length bs ≤ length area → set (written (at + 1) bs area) at m ≡ written at (m ∷ bs) area
+written_behind at m bs area fits =
+    let l : length (take at area) ≡ at = length-take-le at area (omega arith) in
+    ap (λ z. set (z ++ (bs ++ drop (at + 1 + length bs) area)) at m) (take_more area at 0 (omega arith))
+    ∙ (ap (λ z. set z at m) (append_assoc (take at area) (get_or area at 0 ∷ []) (bs ++ drop (at + 1 + length bs) area))
+    ∙ (ap (λ z. set (take at area ++ (get_or area at 0 ∷ (bs ++ drop (at + 1 + length bs) area))) z m) (sym l)
+    ∙ (set-append_seam (take at area) (get_or area at 0) (bs ++ drop (at + 1 + length bs) area) m
+    ∙ (let e : at + 1 + length bs ≡ at + length (m ∷ bs) = omega arith in ap (λ z. take at area ++ (m ∷ (bs ++ drop z area))) e))))
+
+-- the row that begins with the byte at `at`
+pub row_behind : (n at : ℕ) (area : List ℕ) → at < length area → row_at (n + 1) at area ≡ get_or area at 0 ∷ row_at n (at + 1) area
+row_behind n at area h =
+    let e : n + 1 ≡ suc n = omega arith in
+    let f : at + 1 ≡ suc at = omega arith in
+    rw (e, f) (ap (take (suc n)) (drop-cons area at 0 h))

@@ -1,14 +1,13 @@
 // Lists of bad slots.
-ghost use Rattle.std.specs.Prelude.{ℕ, ◌≤◌, take};
 ghost use Rattle.stock.specs.Sizes.{Distinct};
+ghost use Rattle.stock.specs.Places.{numbers, Packed};
 
 pub mod list;
 
-// At most 16 different slot numbers: the first `count` of `slots`.
+// At most 16 different slot numbers, one in each place, and the empty places behind them.
 #[derive(Clone, Copy)]
 pub struct BadSlots {
-    slots: [u64; 16],
-    count: usize,
-    ghost few: { count ≤ 16 },
-    ghost once: { Distinct (take count slots) },
+    slots: [Option<u64>; 16],
+    ghost packed: { Packed slots },
+    ghost once: { Distinct (numbers slots) },
 }

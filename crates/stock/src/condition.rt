@@ -22,34 +22,24 @@ impl Condition {
         self as u8
     }
 
-    // Whether a clear is allowed of a slot in this condition: 6, then 8.
-    pub fn allows_clear(self, slot: u64) -> Result<(), StockFault>
-        ensures { result ≡ answered (clear_refusal self slot) tt }
-    {
-        match self {
-            Condition::NoSlot => Err(StockFault {
-                cause: StockCause::NoSlot,
-                slot,
-            }),
-            Condition::Bad => Err(StockFault {
-                cause: StockCause::BadSlot,
-                slot,
-            }),
-            Condition::Blank | Condition::Filled => Ok(()),
-        }
-    }
-
     // Whether a put is allowed of a slot in this condition: 6, then 7 unless the row `fits`, then 8.
     pub fn allows_put(self, slot: u64, fits: bool) -> Result<(), StockFault>
         ensures { result ≡ answered (put_refusal self slot fits) tt }
     {
         match self {
-            Condition::Blank | Condition::Filled | Condition::Bad if !fits => Err(StockFault {
-                cause: StockCause::WrongLength,
-                slot,
-            }),
-            _ => self.allows_clear(slot),
+            Condition::NoSlot => Err(StockCause::NoSlot),
+            _ if !fits => Err(StockCause::WrongLength),
+            Condition::Bad => Err(StockCause::BadSlot),
+            Condition::Blank | Condition::Filled => Ok(()),
         }
+        .map_err(|cause| StockFault { cause, slot })
+    }
+
+    // Whether a clear is allowed of a slot in this condition: 6, then 8, as where a row to put fits.
+    pub fn allows_clear(self, slot: u64) -> Result<(), StockFault>
+        ensures { result ≡ answered (clear_refusal self slot) tt }
+    {
+        self.allows_put(slot, true)
     }
 
     // Whether a get is allowed of a slot in this condition: as a put, and then 9.

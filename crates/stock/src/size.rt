@@ -6,7 +6,7 @@ ghost use Rattle.stock.specs.Sizes.{size_fault};
 use fault::shape::ShapeFault;
 
 // A frame length: 16 to 8,208 bytes.
-#[derive(Clone, Copy)]
+#[derive(Clone, Copy, PartialEq, Eq, Debug)]
 pub struct FrameSize {
     bytes: usize,
     ghost low: { 16 ≤ bytes },
@@ -14,13 +14,20 @@ pub struct FrameSize {
 }
 
 impl FrameSize {
+    // The least frame length, in bytes.
+    pub const LEAST: usize = 16;
+
+    // The greatest, in bytes.
+    pub const MOST: usize = 8208;
+
     pub fn new(bytes: usize) -> Result<FrameSize, ShapeFault>
         ensures { Answers (size_fault bytes) (λ s. s.bytes ≡ bytes) result }
     {
-        if bytes < 16 || bytes > 8208 {
-            return Err(ShapeFault::FrameSize);
+        if (FrameSize::LEAST..=FrameSize::MOST).contains(&bytes) {
+            Ok(FrameSize { bytes })
+        } else {
+            Err(ShapeFault::FrameSize)
         }
-        Ok(FrameSize { bytes })
     }
 
     pub fn get(&self) -> usize

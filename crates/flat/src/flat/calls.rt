@@ -3,27 +3,22 @@ ghost use Rattle.std.specs.Prelude.{◌≡◌, ℕ, ◌+◌, ◌*◌, ◌<◌, �
 ghost use Rattle.stock.specs.Refusals.{answered};
 ghost use Rattle.stock.specs.BadLists.{bad_list};
 ghost use Rattle.stock.specs.Stocks.{put_fault, clear_fault, after_put, after_clear, fresh_contents};
-ghost use Rattle.flat.specs.Flats.{flat_count, Unmarked};
+ghost use Rattle.flat.specs.Flats.{flat_count, mark_at, body_at, Unmarked};
 ghost use Rattle.flat.specs.FlatHeld.{flat_over, flat_held, area_after_put, area_after_clear};
 ghost use Rattle.flat.specs.FlatArea.{slots_framed, slots_few};
 ghost use Rattle.std.proofs.Common.{rules};
 
 use crate::flat::FlatStock;
-use crate::mark::{clear_marks, clear_slot, condition_of, fill_slot, read_slot};
+use crate::mark::{BLANK, clear_marks, condition_of, fill_slot};
 use fault::stock::StockFault;
+use std::ops::Range;
 use stock::bad::BadSlots;
 use stock::condition::Condition;
 use stock::size::FrameSize;
 use stock::stock::Stock;
 
-// How many slots an area of so many bytes has room for.
-fn slots_in(area: usize, frame: usize) -> usize
-    requires { frame ≤ 8208 }
-    ensures { result ≡ flat_count frame area }
-{
-    let most = area / (frame + 1);
-    most.min(65536)
-}
+// The most slots that a stock has.
+const MOST_SLOTS: usize = 65536;
 
 impl FlatStock {
     // The stock over an area as it is; nothing is written.
@@ -32,7 +27,8 @@ impl FlatStock {
         ensures area { result.area ≡ area }
         ensures parts { (result.size ≡ size) × (result.bad ≡ bad) }
     {
-        let slots = slots_in(area.len(), size.get());
+        let room = area.len() / (size.get() + 1);
+        let slots = room.min(MOST_SLOTS);
         FlatStock {
             area,
             size,
@@ -49,7 +45,7 @@ impl FlatStock {
     {
         let mut stock = FlatStock::over(area, size, bad);
         let slots = stock.slots;
-        clear_marks(stock.area.as_mut_slice(), size.get(), slots);
+        clear_marks(stock.area.as_mut_slice(), size, slots);
         stock
     }
 
@@ -58,22 +54,38 @@ impl FlatStock {
         ensures area { result ≡ self.area }
         ensures again { flat_over self.size self.bad result.items ≡ flat_held self }
     {
-        let FlatStock {
-            area,
-            size: _,
-            slots: _,
-            bad: _,
-        } = self;
+        let FlatStock { area, .. } = self;
         area
     }
 
-    // Where a slot begins.
-    fn base(&self, slot: u64) -> usize
+    // Where the bytes of a slot lie in the area.
+    fn place(&self, slot: u64) -> Range<usize>
         requires { slot < self.now.slots }
-        ensures value { result ≡ slot * (self.now.size.bytes + 1) }
-        ensures within { result + 1 + self.now.size.bytes ≤ length self.now.area.items }
+        ensures start { result.start ≡ slot * (self.now.size.bytes + 1) }
+        ensures end { result.end ≡ result.start + (self.now.size.bytes + 1) }
+        ensures within { result.end ≤ length self.now.area.items }
     {
-        slot as usize * (self.size.get() + 1)
+        let len = self.size.get() + 1;
+        let start = slot as usize * len;
+        start..start + len
+    }
+
+    // The mark of a slot.
+    fn mark(&self, slot: u64) -> u8
+        requires { slot < self.now.slots }
+        ensures { result ≡ mark_at self.now.size.bytes self.now.area.items slot }
+    {
+        self.area[self.place(slot).start]
+    }
+
+    // The bytes of a slot behind its mark.
+    fn frame(&self, slot: u64) -> &[u8]
+        requires { slot < self.now.slots }
+        ensures bytes { result.now ≡ body_at self.now.size.bytes self.now.area.items slot }
+        ensures len { length result.now ≡ self.now.size.bytes }
+    {
+        let place = self.place(slot);
+        &self.area[place.start + 1..place.end]
     }
 }
 
@@ -100,7 +112,7 @@ impl Stock for FlatStock {
         if slot >= self.slots as u64 {
             return Condition::NoSlot;
         }
-        condition_of(self.bad.has(slot), self.area[self.base(slot)])
+        condition_of(self.bad.has(slot), self.mark(slot))
     }
 
     fn put(&mut self, slot: u64, bytes: &[u8]) -> Result<(), StockFault>
@@ -110,8 +122,8 @@ impl Stock for FlatStock {
     {
         self.condition(slot)
             .allows_put(slot, bytes.len() == self.size.get())?;
-        let base = self.base(slot);
-        fill_slot(self.area.as_mut_slice(), base, bytes);
+        let place = self.place(slot);
+        fill_slot(&mut self.area[place], bytes);
         Ok(())
     }
 
@@ -121,16 +133,15 @@ impl Stock for FlatStock {
         ensures area { self.new.area.items ≡ area_after_clear self.old slot }
     {
         self.condition(slot).allows_clear(slot)?;
-        let base = self.base(slot);
-        clear_slot(self.area.as_mut_slice(), base);
+        let mark = self.place(slot).start;
+        self.area[mark] = BLANK;
         Ok(())
     }
 
     fn get(&self, slot: u64, area: &mut [u8]) -> Result<(), StockFault> {
         self.condition(slot)
             .allows_get(slot, area.len() == self.size.get())?;
-        let base = self.base(slot);
-        read_slot(self.area.as_slice(), base, area);
+        area.copy_from_slice(self.frame(slot));
         Ok(())
     }
 }

@@ -1,5 +1,5 @@
 // Making a list of bad slots, and asking it.
-ghost use Rattle.std.specs.Prelude.{◌≡◌, []};
+ghost use Rattle.std.specs.Prelude.{◌≡◌, [], position, is_none};
 ghost use Rattle.stock.specs.Refusals.{answered};
 ghost use Rattle.stock.specs.Sizes.{listed, list_fault, with_listed};
 ghost use Rattle.stock.specs.BadLists.{bad_list};
@@ -7,32 +7,25 @@ ghost use Rattle.stock.specs.BadLists.{bad_list};
 use crate::bad::BadSlots;
 use fault::shape::ShapeFault;
 
-fn stands_in(slots: &[u64], slot: u64) -> bool
-    ensures { result ≡ listed slots.now slot }
-{
-    for x in slots {
-        if *x == slot {
-            return true;
-        }
-    }
-    false
-}
-
 impl BadSlots {
     // The empty list.
     pub fn none() -> BadSlots
         ensures { bad_list result ≡ [] }
     {
-        BadSlots {
-            slots: [0; 16],
-            count: 0,
-        }
+        BadSlots { slots: [None; 16] }
     }
 
     pub fn has(&self, slot: u64) -> bool
         ensures { result ≡ listed (bad_list self.now) slot }
     {
-        stands_in(&self.slots[0..self.count], slot)
+        self.slots.contains(&Some(slot))
+    }
+
+    // The first empty place.
+    fn free(&self) -> Option<usize>
+        ensures { result ≡ position is_none self.now.slots }
+    {
+        self.slots.iter().position(|place| place.is_none())
     }
 
     // Adds a slot, unless it stands there already; a seventeenth is refused.
@@ -43,11 +36,8 @@ impl BadSlots {
         if self.has(slot) {
             return Ok(());
         }
-        if self.count == 16 {
-            return Err(ShapeFault::ListFull);
-        }
-        self.slots[self.count] = slot;
-        self.count += 1;
+        let free = self.free().ok_or(ShapeFault::ListFull)?;
+        self.slots[free] = Some(slot);
         Ok(())
     }
 }

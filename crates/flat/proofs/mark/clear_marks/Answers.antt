@@ -18,11 +18,15 @@ more n i before xs lt u =
       others = λ j ne. get_or-set_other xs (i * (n + 1)) j 0 0 (ne i (omega arith)) ∙ u.others j (λ q h. ne q (omega arith));
     }
 
-pub bounds-area-i : goal.bounds-area-i
-bounds-area-i c = let w = within c.loop-i.i c.args.slots (c.args.frame + 1) (length c.args.area.now) c.loop-i-test.true c.requires.0 in let k = c.loop-i.auto.area in omega arith
+pub bounds-area-slot : goal.bounds-area-slot
+bounds-area-slot c =
+    let w = within c.loop-slot.slot c.args.slots (c.args.size.bytes + 1) (length c.args.area.now) c.loop-slot-test.true c.requires in
+    let e : c.loop-slot.slot * (c.get-len.result + 1) ≡ c.loop-slot.slot * (c.args.size.bytes + 1) = ap (λ z. c.loop-slot.slot * (z + 1)) c.get-len.ensures in
+    let k = c.loop-slot.auto.area in omega arith
 
-pub loop-i-preserved : goal.loop-i-preserved
-loop-i-preserved c =
-    let w = within c.loop-i.i c.args.slots (c.args.frame + 1) (length c.args.area.now) c.loop-i-test.true c.requires.0 in
-    let k = c.loop-i.auto.area in
-    more c.args.frame c.loop-i.i c.args.area.now c.loop-i.area (omega arith) c.loop-i.invariant
+pub loop-slot-preserved : goal.loop-slot-preserved
+loop-slot-preserved c =
+    let i : ℕ = c.loop-slot.slot in
+    let w = within i c.args.slots (c.args.size.bytes + 1) (length c.args.area.now) c.loop-slot-test.true c.requires in
+    let k = c.loop-slot.auto.area in
+    rw c.get-len.ensures (more c.args.size.bytes i c.args.area.now c.loop-slot.area (omega arith) c.loop-slot.invariant)

@@ -10,16 +10,16 @@ use Rattle.flat.proofs.flat.FlatStock.fresh.Goals as goal
 pub clear_marks-requires : goal.clear_marks-requires
 clear_marks-requires c =
     let o = c.over-stock.result in
-    let s : o.slots * (c.get.result + 1) ≡ o.slots * (o.size.bytes + 1) = ap (λ z. o.slots * (z + 1)) (c.get.ensures ∙ ap (λ z. z.bytes) (sym c.over-stock.ensures.parts.0)) in
+    let s : o.slots * (c.args.size.bytes + 1) ≡ o.slots * (o.size.bytes + 1) = ap (λ (z : FrameSize). o.slots * (z.bytes + 1)) (sym c.over-stock.ensures.parts.0) in
     let f = count_fits _ _ _ o.count in
     let l = ap length c.as_mut_slice.ensures.value in
-    (omega arith, omega arith)
+    omega arith
 
 pub invariant_of-stock : goal.invariant_of-stock
 invariant_of-stock c = record { count = recounted c.over-stock.result.area c.clear_marks.new.area _ _ _ c.clear_marks.auto.area c.as_mut_slice.ensures.value c.as_mut_slice.ensures.len c.over-stock.result.count }
 
-unmarked_at : (n m s t : ℕ) (xs ys zs ws : List ℕ) → m ≡ n → s ≡ t → ys ≡ xs → ws ≡ zs → Unmarked m s ys zs → Unmarked n t xs ws
-unmarked_at n m s t xs ys zs ws em es ey ew u = rw (ew, ← em, ← es, ← ey) u
+unmarked_at : (n s t : ℕ) (xs ys zs ws : List ℕ) → s ≡ t → ys ≡ xs → ws ≡ zs → Unmarked n s ys zs → Unmarked n t xs ws
+unmarked_at n s t xs ys zs ws es ey ew u = rw (ew, ← es, ← ey) u
 
 fresh_at : (n m : ℕ) (b d xs ws : List ℕ) → m ≡ n → b ≡ d → Unmarked n (flat_count n (length xs)) xs ws → flat_contents m (flat_count m (length ws)) b ws ≡ fresh_contents n (flat_count n (length xs)) d
 fresh_at n m b d xs ws em eb u =
@@ -33,7 +33,7 @@ returns c =
     let ev : vec_items o.area ≡ vec_items c.args.area = ap vec_items c.over-stock.ensures.area in
     let r = with_items_is o.area c.clear_marks.new.area (c.clear_marks.auto.area ∙ c.as_mut_slice.ensures.len) in
     let es : o.slots ≡ flat_count c.args.size.bytes (length (vec_items c.args.area)) = o.count ∙ (ap (λ (z : FrameSize). flat_count z.bytes (length (vec_items o.area))) p.0 ∙ ap (λ z. flat_count c.args.size.bytes (length z)) ev) in
-    let u = unmarked_at _ _ _ _ _ _ _ _ c.get.ensures es (c.as_mut_slice.ensures.value ∙ ev) r c.clear_marks.ensures in
+    let u = unmarked_at _ _ _ _ _ _ _ es (c.as_mut_slice.ensures.value ∙ ev) r c.clear_marks.ensures in
     record {
       held = fresh_at _ _ _ _ _ _ (ap (λ (z : FrameSize). z.bytes) p.0) (ap bad_list p.1) u;
       area = u;

@@ -1,14 +1,44 @@
-use Rattle.std.proofs.Common.{◌≡◌, ℕ, ◌<◌, false, List, length, take, sym, ◌∙◌, arith}
-use Rattle.std.proofs.lemmas.List.{take_more_set}
+use Rattle.std.proofs.Common.{◌≡◌, ℕ, true, false, List, length, None, Some, Option, is_none, position, ltb, sym, ◌∙◌, arith, rules, lt-ltb}
+use Rattle.std.proofs.lemmas.Bool.{le-ltb}
 use Rattle.stock.specs.Sizes.{listed}
+use Rattle.stock.specs.Places.{numbers}
 use Rattle.stock.proofs.Distinct.{distinct_push}
+use Rattle.stock.proofs.Places.{room, no_room, packed_set, numbers_set}
 use Rattle.stock.proofs.bad.BadSlots.add.Goals as goal
 
-pub invariant_of-self-clause-once : goal.invariant_of-self-clause-once
-invariant_of-self-clause-once c =
-    let xs : List ℕ = c.args.self.now.slots in
-    let n : ℕ = c.args.self.now.count in
-    let lt : n < length xs = omega arith in
-    let no : listed (take n xs) c.args.slot ≡ false = sym c.has.ensures ∙ c.if-has.false in
-    let d = distinct_push (take n xs) c.args.slot c.args.self.now.once no in
-    rw (take_more_set xs n c.args.slot lt) d
+pub returns-in_err-free-clause-answer : goal.returns-in_err-free-clause-answer
+returns-in_err-free-clause-answer c =
+    let ps : List (Option ℕ) = c.args.self.now.slots in
+    let n : listed (numbers ps) c.args.slot ≡ false = sym c.has.ensures ∙ c.if-has.false in
+    let e : position is_none ps ≡ None = search rules in
+    let l = no_room ps e in
+    let t : ltb (length (numbers ps)) 16 ≡ false = le-ltb _ _ (omega arith) in
+    rw (n, t) (search rules)
+
+pub returns-in_err-free-clause-list : goal.returns-in_err-free-clause-list
+returns-in_err-free-clause-list c =
+    let ps : List (Option ℕ) = c.args.self.now.slots in
+    let n : listed (numbers ps) c.args.slot ≡ false = sym c.has.ensures ∙ c.if-has.false in
+    let e : position is_none ps ≡ None = search rules in
+    let l = no_room ps e in
+    let t : ltb (length (numbers ps)) 16 ≡ false = le-ltb _ _ (omega arith) in
+    rw (n, t)
+
+pub invariant_of-self : goal.invariant_of-self
+invariant_of-self c =
+    let ps : List (Option ℕ) = c.args.self.now.slots in
+    let n : listed (numbers ps) c.args.slot ≡ false = sym c.has.ensures ∙ c.if-has.false in
+    let e : position is_none ps ≡ Some c.in_ok-free.free = search rules in
+    record {
+      packed = packed_set ps c.in_ok-free.free c.args.slot c.args.self.now.packed e;
+      once = rw (numbers_set ps c.in_ok-free.free c.args.slot c.args.self.now.packed e) (distinct_push (numbers ps) c.args.slot c.args.self.now.once n);
+    }
+
+pub returns : goal.returns
+returns c =
+    let ps : List (Option ℕ) = c.args.self.now.slots in
+    let n : listed (numbers ps) c.args.slot ≡ false = sym c.has.ensures ∙ c.if-has.false in
+    let e : position is_none ps ≡ Some c.in_ok-free.free = search rules in
+    let r = room ps c.in_ok-free.free e in
+    let t : ltb (length (numbers ps)) 16 ≡ true = lt-ltb _ _ (omega arith) in
+    record { answer = rw (n, t); list = rw (n, t) (numbers_set ps c.in_ok-free.free c.args.slot c.args.self.now.packed e) }

@@ -1,8 +1,7 @@
 -- AES: a step of each recursion, and what the rounds read of the round keys
-use Rattle.std.proofs.Common.{◌≡◌, ℕ, zero, suc, ◌+◌, ◌-◌, ◌*◌, ◌/◌, ◌%◌, ◌<◌, true, eqb, ◌⊎◌, List, [], ◌∷◌, ◌++◌, length, get_or, take, drop, sym, refl, ap, ◌∙◌, inl, inr, ⊎_elim, add-one, zero-add, arith}
+use Rattle.std.proofs.Common.{◌≡◌, ℕ, zero, suc, ◌+◌, ◌-◌, ◌*◌, ◌/◌, ◌%◌, ◌<◌, true, eqb, ◌⊎◌, List, [], ◌∷◌, ◌++◌, length, get_or, take, drop, sym, ap, ◌∙◌, inl, inr, ⊎_elim, add-one, zero-add, arith}
 use lib.Bits.{bit_xor}
-use native.Mathlib.Nat.{mul-suc}
-use Rattle.std.proofs.lemmas.List.{get_or-take, get_or-drop, drop-drop}
+use Rattle.std.proofs.lemmas.List.{get_or-take, get_or-drop}
 use Rattle.std.specs.Simd.{first_chunks}
 use Rattle.std.proofs.lemmas.Bool.{cases_lt, lt-ltb, eqb-true, or_cases}
 use Rattle.cipher.specs.Field.{xtime}
@@ -10,6 +9,7 @@ use Rattle.cipher.specs.Steps.{keyed_at, add_round_key}
 use Rattle.cipher.specs.Schedule.{rcon, key_byte, expanded, aes_rounds, round_keys, Scheduled}
 use Rattle.cipher.specs.Aes.{aes_takes, middle_round, after, aes_by, aes}
 use Rattle.arith.proofs.Places.{by_place_same}
+use Rattle.cipher.proofs.Places.{chunk}
 
 -- the lengths of keys that are taken
 pub taken_lengths : (n : ℕ) → aes_takes n ≡ true → (n ≡ 16) ⊎ (n ≡ 32)
@@ -57,14 +57,6 @@ pub aes_scheduled : (key w s : List ℕ) → Scheduled key w → aes_by (aes_rou
 aes_scheduled key w s h =
     by_same w (round_keys key) s (aes_rounds (length key)) (omega arith)
     (λ i l. sym (get_or-take (16 * aes_rounds (length key) + 16) w i 0 l) ∙ ap (λ v. get_or v i 0) h)
-
--- the chunk j of the first k chunks of n elements
-chunk : (n k : ℕ) (xs : List ℕ) (j : ℕ) → j < k → get_or (first_chunks n k xs) j [] ≡ take n (drop (n * j) xs)
-chunk n zero xs j h = absurd (omega arith)
-chunk n (suc k) xs zero h = let e : n * 0 ≡ 0 = omega arith in rw e refl
-chunk n (suc k) xs (suc j) h =
-    let e : n * suc j ≡ n + n * j = mul-suc n j ∙ omega arith in
-    rw e (chunk n k (drop n xs) j (omega arith) ∙ ap (take n) (drop-drop (n * j) n xs))
 
 -- the round key r of round keys that are cut into chunks
 pub round_key : (w s : List ℕ) (keys : List (List ℕ)) (m r : ℕ) → keys ≡ first_chunks 16 m w → r < m → add_round_key (get_or keys r []) 0 s ≡ add_round_key w r s

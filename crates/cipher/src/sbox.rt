@@ -37,5 +37,5 @@ pub fn sub_byte(b: u8) -> u8
     ensures apart { (a : ℕ) → a < 256 → sub a ≡ result → a ≡ b }
     ensures inverse { 0 < b → times b (inverse b) ≡ 1 }
 {
-    table()[b as usize]
+    table()[usize::from(b)]
 }

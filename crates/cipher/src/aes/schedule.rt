@@ -1,6 +1,6 @@
 // The key expansion of FIPS 197, byte by byte.
-ghost use Rattle.std.specs.Prelude.{◌≡◌, ◌*◌, ◌<◌, ◌≤◌, true, length};
-ghost use Rattle.cipher.specs.Schedule.{rcon as constant_of, given as given_by, key_byte, aes_rounds, Scheduled};
+ghost use Rattle.std.specs.Prelude.{◌≡◌, ◌/◌, ◌<◌, true, length};
+ghost use Rattle.cipher.specs.Schedule.{rcon as constant_of, key_byte, aes_rounds, Scheduled};
 ghost use Rattle.cipher.specs.Aes.{aes_takes};
 
 use crate::aes::steps::xtime;
@@ -10,38 +10,29 @@ use crate::sbox::sub_byte;
 fn rcon(n: usize) -> u8
     ensures { result ≡ constant_of n }
 {
-    let mut c = 1;
-    for _i in 0..n {
-        c = xtime(c);
-    }
-    c
+    (0..n).fold(1, |c, _| xtime(c))
 }
 
-// Byte r of what the word before word i gives to it.
-fn given(nk: usize, w: &[u8; 240], i: usize, r: usize) -> u8
-    requires { (4 ≤ nk) × ((nk ≤ i) × ((i < 60) × (r < 4))) }
-    ensures { result ≡ given_by nk w.now i r }
+// Byte j of the round keys, from those before it: byte r of word i, where j = 4 i + r.
+fn key_byte(key: &[u8], w: &[u8; 240], j: usize) -> u8
+    requires { (aes_takes (length key.now) ≡ true) × (j < 240) }
+    ensures { result ≡ key_byte (length key.now / 4) key.now w.now j }
 {
-    if i % nk == 0 {
+    if let Some(b) = key.get(j) {
+        return *b;
+    }
+    let nk = key.len() / 4;
+    let i = j / 4;
+    let r = j % 4;
+    let given = if i % nk == 0 {
         let c = if r == 0 { rcon(i / nk - 1) } else { 0 };
         sub_byte(w[4 * i - 4 + (r + 1) % 4]) ^ c
     } else if nk > 6 && i % nk == 4 {
         sub_byte(w[4 * i - 4 + r])
     } else {
         w[4 * i - 4 + r]
-    }
-}
-
-// Byte j of the round keys, from those before it.
-fn key_byte(nk: usize, key: &[u8], w: &[u8; 240], j: usize) -> u8
-    requires { (4 ≤ nk) × ((length key.now ≡ 4 * nk) × (j < 240)) }
-    ensures { result ≡ key_byte nk key.now w.now j }
-{
-    if j < 4 * nk {
-        key[j]
-    } else {
-        w[j - 4 * nk] ^ given(nk, w, j / 4, j % 4)
-    }
+    };
+    w[j - 4 * nk] ^ given
 }
 
 // How many rounds a key of so many bytes has.
@@ -56,10 +47,9 @@ pub(super) fn key_expansion(key: &[u8]) -> [u8; 240]
     requires { aes_takes (length key.now) ≡ true }
     ensures { Scheduled key.now result }
 {
-    let nk = key.len() / 4;
     let mut w = [0; 240];
     for j in 0..16 * rounds(key.len()) + 16 {
-        w[j] = key_byte(nk, key, &w, j);
+        w[j] = key_byte(key, &w, j);
     }
     w
 }

@@ -1,22 +1,24 @@
 // The steps of Speck64/128: a round on two words of 32 bits, the round keys, and all rounds on a block.
-ghost use Rattle.std.specs.Prelude.{◌≡◌, ◌+◌, ◌<◌, ◌++◌, length};
-ghost use Rattle.cipher.specs.Speck.{mixed, turned, word as word_at, word_bytes, speck_keys, rounds};
+ghost use Rattle.std.specs.Prelude.{◌≡◌, ◌*◌, ◌≤◌, ◌++◌, length};
+ghost use Rattle.arith.specs.Rows.{by_place};
+ghost use Rattle.cipher.specs.Speck.{mixed, turned, word, word_bytes, speck_keys, rounds};
 
-// The word whose lowest byte stands at place i.
-fn word(s: &[u8], i: usize) -> u32
-    requires { i + 3 < length s.now }
-    ensures { result ≡ word_at s.now i }
+use std::array;
+
+// The first N words of a row of bytes, each with its lowest byte first.
+fn words<const N: usize>(s: &[u8]) -> [u32; N]
+    requires { 4 * N ≤ length s.now }
+    ensures { result ≡ by_place N (λ i. word s.now (4 * i)) }
 {
-    u32::from_le_bytes([s[i], s[i + 1], s[i + 2], s[i + 3]])
+    let (words, _) = s.as_chunks::<4>();
+    array::from_fn(|i| u32::from_le_bytes(words[i]))
 }
 
 // A block of two words, y before x.
 fn block_of(x: u32, y: u32) -> [u8; 8]
     ensures { result ≡ word_bytes y ++ word_bytes x }
 {
-    let [a, b, c, d] = y.to_le_bytes();
-    let [e, f, g, h] = x.to_le_bytes();
-    [a, b, c, d, e, f, g, h]
+    (u64::from(x) << 32 | u64::from(y)).to_le_bytes()
 }
 
 // What a round under k makes of x.
@@ -37,28 +39,22 @@ fn turn(y: u32, x: u32) -> u32
 pub(super) fn expand(key: &[u8; 16]) -> [u32; 27]
     ensures { result ≡ speck_keys key.now }
 {
+    let [mut k, mut a, mut b, mut c] = words::<4>(key);
     let mut keys = [0; 27];
-    let mut k = word(key, 0);
-    let mut a = word(key, 4);
-    let mut b = word(key, 8);
-    let mut c = word(key, 12);
-    for i in 0..27u32 {
-        keys[i as usize] = k;
-        let l = mix(a, k, i);
+    for (i, key) in keys.iter_mut().enumerate() {
+        *key = k;
+        let l = mix(a, k, i as u32);
         k = turn(k, l);
-        a = b;
-        b = c;
-        c = l;
+        (a, b, c) = (b, c, l);
     }
     keys
 }
 
 // A block through all rounds.
 pub(super) fn encrypt_by(keys: &[u32; 27], block: &[u8; 8]) -> [u8; 8]
-    ensures { result ≡ rounds keys.now (word_at block.now 4) (word_at block.now 0) }
+    ensures { result ≡ rounds keys.now (word block.now 4) (word block.now 0) }
 {
-    let mut x = word(block, 4);
-    let mut y = word(block, 0);
+    let [mut y, mut x] = words::<2>(block);
     for k in keys {
         x = mix(x, y, *k);
         y = turn(y, x);

@@ -5,4 +5,4 @@ use Rattle.cipher.proofs.aes.steps.add_round_key.Goals as goal
 
 pub returns : goal.returns
 unfolding add_round_key
-returns c = made_by_place _ (keyed_at c.args.k.now 0 c.args.s.now) _ (λ i y q k. search rules) c.from_fn.result 16 c.from_fn.ensures.items
+returns c = made_by_place (keyed_at c.args.k.now 0 c.args.s.now) 16 (λ i y q l k. search rules) c.from_fn.ensures.items

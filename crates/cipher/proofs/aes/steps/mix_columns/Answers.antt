@@ -5,4 +5,4 @@ use Rattle.cipher.proofs.aes.steps.mix_columns.Goals as goal
 
 pub returns : goal.returns
 unfolding mix_columns
-returns c = made_by_place _ (mixed_at c.args.s.now) _ (λ i y q k. search rules) c.from_fn.result 16 c.from_fn.ensures.items
+returns c = made_by_place (mixed_at c.args.s.now) 16 (λ i y q l k. search rules) c.from_fn.ensures.items

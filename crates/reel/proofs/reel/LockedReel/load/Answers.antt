@@ -1,13 +1,8 @@
-use Rattle.reel.specs.States.{locked_book}
-use Rattle.reel.proofs.Calls.{load_only}
-use Rattle.std.proofs.Common.{refl}
+use Rattle.reel.proofs.Calls.{put_only}
 use Rattle.reel.proofs.reel.LockedReel.load.Goals as goal
 
-pub returns : goal.returns
-returns g c =
-    record {
-      answer = c.load_frame.ensures.answer;
-      book = c.load_frame.ensures.book;
-      only = load_only g.Su.Suite.block (locked_book g.St.Stock.held c.args.self.now) c.args.address _ c.args.frame.now c.load_frame.ensures.book;
-      suite = refl;
-    }
+pub returns-in_err-put-clause-only : goal.returns-in_err-put-clause-only
+returns-in_err-put-clause-only g c = put_only _ _ _ c.args.frame.now c.put.ensures.held
+
+pub returns-clause-only : goal.returns-clause-only
+returns-clause-only g c = put_only _ _ _ c.args.frame.now c.put.ensures.held

@@ -13,9 +13,8 @@ module _ (h : Contents) (i : ℕ) where
   one_slot v None u e = one_set h i v (u refl) e
   one_slot v (Some f) u e = unchanged h i
 
-  pub put_only : (after : Contents) (bs : List ℕ) → after ≡ after_put h i bs → OnlySlot i h after
-  put_only after bs e =
-      rw e (one_slot (filled bs) (put_fault h i (length bs)) (λ n. (put_allowed h i (condition_at h i) (eqb (length bs) h.frame) refl n).0) refl)
+  pub put_only : (bs : List ℕ) → OnlySlot i h (after_put h i bs)
+  put_only bs = one_slot (filled bs) (put_fault h i (length bs)) (λ n. (put_allowed h i (condition_at h i) (eqb (length bs) h.frame) refl n).0) refl
 
-  pub clear_only : (after : Contents) → after ≡ after_clear h i → OnlySlot i h after
-  clear_only after e = rw e (one_slot blank (clear_fault h i) (λ n. clear_allowed h i (condition_at h i) refl n) refl)
+  pub clear_only : OnlySlot i h (after_clear h i)
+  clear_only = one_slot blank (clear_fault h i) (λ n. clear_allowed h i (condition_at h i) refl n) refl

@@ -78,6 +78,7 @@ impl<St: Stock, Su: Suite> LockedReel<St, Su> {
     }
 
     // Puts a frame in at an address. Refused by 5 to 8, and the reel is then as it was.
+    #[tactic(auto, using(crate::proofs::Calls::put_only))]
     pub fn load(&mut self, address: u64, frame: &[u8]) -> Result<(), ReelFault>
         ensures answer { result ≡ answered (load_fault Su.block (locked_book St.held self.old) address (length frame.now)) tt }
         ensures book { locked_book St.held self.new ≡ after_load Su.block (locked_book St.held self.old) address frame.now }

@@ -18,69 +18,10 @@ pub struct LockedReel<St: Stock, Su: Suite> {
     suite: Su,
 }
 
-// 5, then 6, then 7.
-fn check_shape<St: Stock, Su: Suite>(stock: &St, address: u64, fits: bool) -> Result<(), ReelFault>
-    ensures { result ≡ answered (shape_fault Su.L (book_of (St.held stock.now)) address fits) tt }
-{
-    let block = Su::L;
-    let frame = stock.frame_len();
-    if frame % block != 0 || frame < 2 * block || frame > 513 * block {
-        return Err(ReelFault {
-            cause: ReelCause::NotBlocks,
-            address,
-        });
-    }
-    if address >= stock.slots() {
-        return Err(ReelFault {
-            cause: ReelCause::NoAddress,
-            address,
-        });
-    }
-    if !fits {
-        return Err(ReelFault {
-            cause: ReelCause::WrongArea,
-            address,
-        });
-    }
-    Ok(())
-}
+// The fewest and the most blocks of a frame.
+const MIN_BLOCKS: usize = 2;
 
-fn take_frame<St: Stock, Su: Suite>(
-    stock: &St,
-    address: u64,
-    area: &mut [u8],
-) -> Result<(), ReelFault>
-    ensures answer { result ≡ answered (take_fault Su.L (book_of (St.held stock.now)) address (length area.old)) tt }
-    ensures area { area.new ≡ taken Su.L (book_of (St.held stock.now)) address area.old }
-{
-    let fits = area.len() == stock.frame_len();
-    check_shape::<St, Su>(stock, address, fits)?;
-    stock.get(address, area)?;
-    Ok(())
-}
-
-fn load_frame<St: Stock, Su: Suite>(
-    stock: &mut St,
-    address: u64,
-    frame: &[u8],
-) -> Result<(), ReelFault>
-    ensures answer { result ≡ answered (load_fault Su.L (book_of (St.held stock.old)) address (length frame.now)) tt }
-    ensures book { book_of (St.held stock.new) ≡ after_load Su.L (book_of (St.held stock.old)) address frame.now }
-{
-    let fits = frame.len() == stock.frame_len();
-    check_shape::<St, Su>(stock, address, fits)?;
-    stock.put(address, frame)?;
-    Ok(())
-}
-
-fn erase_slot<St: Stock, Su: Suite>(stock: &mut St, address: u64) -> Result<(), ReelFault>
-    ensures answer { result ≡ answered (erase_fault Su.L (book_of (St.held stock.old)) address) tt }
-    ensures book { book_of (St.held stock.new) ≡ after_erase Su.L (book_of (St.held stock.old)) address }
-{
-    check_shape::<St, Su>(stock, address, true)?;
-    stock.clear(address)?;
-    Ok(())
-}
+const MAX_BLOCKS: usize = 513;
 
 impl<St: Stock, Su: Suite> LockedReel<St, Su> {
     pub fn new(stock: St, suite: Su) -> LockedReel<St, Su>
@@ -106,32 +47,60 @@ impl<St: Stock, Su: Suite> LockedReel<St, Su> {
         &self.stock
     }
 
+    // The first of 5, 6 and 7 that stands in the way of a call, where the row or area fits or not.
+    fn check_shape(&self, address: u64, fits: bool) -> Result<(), ReelFault>
+        ensures { result ≡ answered (shape_fault Su.L (locked_book St.held self.now) address fits) tt }
+    {
+        let block = Su::L;
+        let frame = self.stock.frame_len();
+        let whole = frame % block == 0
+            && (MIN_BLOCKS * block..=MAX_BLOCKS * block).contains(&frame);
+        let cause = if !whole {
+            ReelCause::NotBlocks
+        } else if address >= self.stock.slots() {
+            ReelCause::NoAddress
+        } else if !fits {
+            ReelCause::WrongArea
+        } else {
+            return Ok(());
+        };
+        Err(ReelFault { cause, address })
+    }
+
     // Copies the frame at an address into the area. Refused by 5 to 9, and the area is then as it was.
     pub fn take(&self, address: u64, area: &mut [u8]) -> Result<(), ReelFault>
         ensures answer { result ≡ answered (take_fault Su.L (locked_book St.held self.now) address (length area.old)) tt }
         ensures area { area.new ≡ taken Su.L (locked_book St.held self.now) address area.old }
     {
-        take_frame::<St, Su>(&self.stock, address, area)
+        self.check_shape(address, area.len() == self.stock.frame_len())?;
+        self.stock.get(address, area)?;
+        Ok(())
     }
 
     // Puts a frame in at an address. Refused by 5 to 8, and the reel is then as it was.
+    #[tactic(auto, using(crate::proofs::Calls::put_only))]
     pub fn load(&mut self, address: u64, frame: &[u8]) -> Result<(), ReelFault>
         ensures answer { result ≡ answered (load_fault Su.L (locked_book St.held self.old) address (length frame.now)) tt }
         ensures book { locked_book St.held self.new ≡ after_load Su.L (locked_book St.held self.old) address frame.now }
         ensures only { OnlySlot address (St.held self.old.stock) (St.held self.new.stock) }
         ensures suite { self.new.suite ≡ self.old.suite }
     {
-        load_frame::<St, Su>(&mut self.stock, address, frame)
+        self.check_shape(address, frame.len() == self.stock.frame_len())?;
+        self.stock.put(address, frame)?;
+        Ok(())
     }
 
     // Makes an address blank. Refused by 5, 6 and 8, and the reel is then as it was.
+    #[tactic(auto, using(crate::proofs::Calls::clear_only))]
     pub fn erase(&mut self, address: u64) -> Result<(), ReelFault>
         ensures answer { result ≡ answered (erase_fault Su.L (locked_book St.held self.old) address) tt }
         ensures book { locked_book St.held self.new ≡ after_erase Su.L (locked_book St.held self.old) address }
         ensures only { OnlySlot address (St.held self.old.stock) (St.held self.new.stock) }
         ensures suite { self.new.suite ≡ self.old.suite }
     {
-        erase_slot::<St, Su>(&mut self.stock, address)
+        self.check_shape(address, true)?;
+        self.stock.clear(address)?;
+        Ok(())
     }
 }
 
@@ -151,6 +120,6 @@ impl<St: Stock, Su: Suite> Loadable for LockedReel<St, Su> {
     }
 
     fn load(&mut self, address: u64, frame: &[u8]) -> Result<(), ReelFault> {
-        load_frame::<St, Su>(&mut self.stock, address, frame)
+        LockedReel::load(self, address, frame)
     }
 }

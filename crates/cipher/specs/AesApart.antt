@@ -1,5 +1,5 @@
 -- AES: how long its keys are; and under one key each step takes rows to rows and can be undone, and so does the whole. Assumes nothing.
-use Rattle.std.proofs.Common.{◌≡◌, ℕ, zero, suc, ◌+◌, ◌-◌, ◌*◌, ◌%◌, ◌<◌, ◌≤◌, true, eqb, List, length, get_or, sym, refl, ◌∙◌, subst, ⊎_elim, zero-add, arith, lit<}
+use Rattle.std.proofs.Common.{◌≡◌, ℕ, zero, suc, ◌+◌, ◌-◌, ◌*◌, ◌%◌, ◌<◌, ◌≤◌, true, eqb, ◌⊎◌, List, length, get_or, sym, refl, ◌∙◌, subst, inl, inr, ⊎_elim, zero-add, arith, lit<}
 use Rattle.std.proofs.lemmas.Bool.{or_cases, eqb-true}
 use lib.Bits.{xor_lt}
 use Rattle.std.specs.List.{range_with_len, AllByRecursion as All}
@@ -98,5 +98,9 @@ aes_row key block h = (aes_good key h).0 block
 pub aes_one_to_one : (key : List ℕ) → Bytes key → OneToOne 16 (aes key)
 aes_one_to_one key h = (aes_good key h).1
 
+-- the lengths of keys that are taken
+pub taken_lengths : (n : ℕ) → aes_takes n ≡ true → (n ≡ 16) ⊎ (n ≡ 32)
+taken_lengths n h = ⊎_elim (λ e. inl (eqb-true n 16 e)) (λ e. inr (eqb-true n 32 e)) (or_cases (eqb n 16) (eqb n 32) h)
+
 pub aes_most : (n : ℕ) → aes_takes n ≡ true → n ≤ 32
-aes_most n h = ⊎_elim (λ e. let q = eqb-true n 16 e in omega arith) (λ e. let q = eqb-true n 32 e in omega arith) (or_cases (eqb n 16) (eqb n 32) h)
+aes_most n h = let p = taken_lengths n h in omega arith

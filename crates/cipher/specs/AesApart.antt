@@ -2,7 +2,7 @@
 use Rattle.std.proofs.Common.{◌≡◌, ℕ, zero, suc, ◌+◌, ◌-◌, ◌*◌, ◌%◌, ◌<◌, ◌≤◌, true, eqb, ◌⊎◌, List, length, get_or, sym, refl, ◌∙◌, subst, inl, inr, ⊎_elim, zero-add, arith, lit<}
 use Rattle.std.proofs.lemmas.Bool.{or_cases, eqb-true}
 use lib.Bits.{xor_lt}
-use Rattle.std.specs.List.{range_with_len, AllByRecursion as All}
+use Rattle.std.specs.List.{range_with_len, AllByRecursion}
 use Rattle.std.proofs.lemmas.List.{ext_get_or}
 use Rattle.std.proofs.ByRecursion.{All-get_or}
 use Rattle.std.proofs.lemmas.List.FromFn.{length-range_with_len, get_or-range_with_len}
@@ -53,7 +53,7 @@ key_good w r hw =
     (λ a b ha hb e k l. xor_back (get_or a k 0) (get_or b k 0) _ (e k l))
 
 -- what holds at each of n places, one by one
-each : (P : ℕ → Type 0) (n : ℕ) → All P (range_with_len 0 n) → (k : ℕ) → k < n → P k
+each : (P : ℕ → Type 0) (n : ℕ) → AllByRecursion P (range_with_len 0 n) → (k : ℕ) → k < n → P k
 each P n h k l =
     let e = length-range_with_len 0 n in
     subst P (get_or-range_with_len 0 n k 0 l ∙ zero-add k) (All-get_or P (range_with_len 0 n) k 0 (omega arith) h)

@@ -1,19 +1,15 @@
 -- AES: a step of each recursion, and what the rounds read of the round keys
-use Rattle.std.proofs.Common.{◌≡◌, ℕ, zero, suc, ◌+◌, ◌-◌, ◌*◌, ◌/◌, ◌%◌, ◌<◌, true, eqb, ◌⊎◌, List, [], ◌∷◌, ◌++◌, length, get_or, take, drop, sym, ap, ◌∙◌, inl, inr, ⊎_elim, add-one, zero-add, arith}
+use Rattle.std.proofs.Common.{◌≡◌, ℕ, zero, suc, ◌+◌, ◌-◌, ◌*◌, ◌/◌, ◌%◌, ◌<◌, List, [], ◌∷◌, ◌++◌, length, get_or, take, drop, sym, ap, ◌∙◌, ⊎_elim, add-one, zero-add, arith}
 use lib.Bits.{bit_xor}
 use Rattle.std.proofs.lemmas.List.{get_or-take, get_or-drop}
 use Rattle.std.specs.Simd.{first_chunks}
-use Rattle.std.proofs.lemmas.Bool.{cases_lt, lt-ltb, eqb-true, or_cases}
+use Rattle.std.proofs.lemmas.Bool.{cases_lt, lt-ltb}
 use Rattle.cipher.specs.Field.{xtime}
 use Rattle.cipher.specs.Steps.{keyed_at, add_round_key}
 use Rattle.cipher.specs.Schedule.{rcon, key_byte, expanded, aes_rounds, round_keys, Scheduled}
-use Rattle.cipher.specs.Aes.{aes_takes, middle_round, after, aes_by, aes}
+use Rattle.cipher.specs.Aes.{middle_round, after, aes_by, aes}
 use Rattle.arith.proofs.Places.{by_place_same}
 use Rattle.cipher.proofs.Places.{chunk}
-
--- the lengths of keys that are taken
-pub taken_lengths : (n : ℕ) → aes_takes n ≡ true → (n ≡ 16) ⊎ (n ≡ 32)
-taken_lengths n h = ⊎_elim (λ e. inl (eqb-true n 16 e)) (λ e. inr (eqb-true n 32 e)) (or_cases (eqb n 16) (eqb n 32) h)
 
 pub after_more : (n : ℕ) (w s : List ℕ) → after (n + 1) w s ≡ middle_round w (n + 1) (after n w s)
 unfolding after

@@ -1,8 +1,8 @@
 -- AES: how long its keys are; and under one key each step takes rows to rows and can be undone, and so does the whole. Assumes nothing.
-use Rattle.std.proofs.Common.{◌≡◌, ℕ, zero, suc, ◌+◌, ◌-◌, ◌*◌, ◌%◌, ◌<◌, ◌≤◌, true, eqb, List, length, get_or, sym, refl, ◌∙◌, subst, ⊎_elim, zero-add, arith, lit<}
+use Rattle.std.proofs.Common.{◌≡◌, ℕ, zero, suc, ◌+◌, ◌-◌, ◌*◌, ◌%◌, ◌<◌, ◌≤◌, true, eqb, ◌⊎◌, List, length, get_or, sym, refl, ◌∙◌, subst, inl, inr, ⊎_elim, zero-add, arith, lit<}
 use Rattle.std.proofs.lemmas.Bool.{or_cases, eqb-true}
 use lib.Bits.{xor_lt}
-use Rattle.std.specs.List.{range_with_len, AllByRecursion as All}
+use Rattle.std.specs.List.{range_with_len, AllByRecursion}
 use Rattle.std.proofs.lemmas.List.{ext_get_or}
 use Rattle.std.proofs.ByRecursion.{All-get_or}
 use Rattle.std.proofs.lemmas.List.FromFn.{length-range_with_len, get_or-range_with_len}
@@ -53,7 +53,7 @@ key_good w r hw =
     (λ a b ha hb e k l. xor_back (get_or a k 0) (get_or b k 0) _ (e k l))
 
 -- what holds at each of n places, one by one
-each : (P : ℕ → Type 0) (n : ℕ) → All P (range_with_len 0 n) → (k : ℕ) → k < n → P k
+each : (P : ℕ → Type 0) (n : ℕ) → AllByRecursion P (range_with_len 0 n) → (k : ℕ) → k < n → P k
 each P n h k l =
     let e = length-range_with_len 0 n in
     subst P (get_or-range_with_len 0 n k 0 l ∙ zero-add k) (All-get_or P (range_with_len 0 n) k 0 (omega arith) h)
@@ -98,5 +98,9 @@ aes_row key block h = (aes_good key h).0 block
 pub aes_one_to_one : (key : List ℕ) → Bytes key → OneToOne 16 (aes key)
 aes_one_to_one key h = (aes_good key h).1
 
+-- the lengths of keys that are taken
+pub taken_lengths : (n : ℕ) → aes_takes n ≡ true → (n ≡ 16) ⊎ (n ≡ 32)
+taken_lengths n h = ⊎_elim (λ e. inl (eqb-true n 16 e)) (λ e. inr (eqb-true n 32 e)) (or_cases (eqb n 16) (eqb n 32) h)
+
 pub aes_most : (n : ℕ) → aes_takes n ≡ true → n ≤ 32
-aes_most n h = ⊎_elim (λ e. let q = eqb-true n 16 e in omega arith) (λ e. let q = eqb-true n 32 e in omega arith) (or_cases (eqb n 16) (eqb n 32) h)
+aes_most n h = let p = taken_lengths n h in omega arith

@@ -1,7 +1,7 @@
 -- The round keys of AES are bytes. Assumes nothing.
 use Rattle.std.proofs.Common.{ℕ, zero, suc, ◌+◌, ◌*◌, ◌/◌, ◌%◌, ◌<◌, ◌&&◌, eqb, ltb, List, length, lit<}
 use lib.Bits.{xor_lt}
-use Rattle.std.specs.List.{AllByRecursion as All}
+use Rattle.std.specs.List.{AllByRecursion}
 use Rattle.std.proofs.ByRecursion.{All-push}
 use Rattle.std.proofs.lemmas.Bool.{cond_both}
 use Rattle.arith.specs.Rows.{Bytes}
@@ -26,7 +26,7 @@ key_byte_is_byte nk key w j hk hw =
     (λ t. xor_lt 8 _ _ (sub_is_byte _ (hw _)) (cond_both (eqb (j % 4) 0) _ _ Byte (λ t. rcon_is_byte _) (λ t. lit< tt)))
     (λ t. cond_both (ltb 6 nk && eqb (j / 4 % nk) 4) _ _ Byte (λ t. sub_is_byte _ (hw _)) (λ t. hw _))))
 
-expanded_bytes : (nk : ℕ) (key : List ℕ) → Bytes key → (n : ℕ) → All Byte (expanded nk key n)
+expanded_bytes : (nk : ℕ) (key : List ℕ) → Bytes key → (n : ℕ) → AllByRecursion Byte (expanded nk key n)
 unfolding expanded
 expanded_bytes nk key h zero = tt
 expanded_bytes nk key h (suc n) =

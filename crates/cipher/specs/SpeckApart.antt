@@ -4,7 +4,7 @@ use lib.Bits.{xor_lt, or_shifted_r, or_shifted}
 use Rattle.cipher.specs.Xor.{xor_back}
 use Rattle.arith.proofs.Rows.{bytes_under}
 use Rattle.std.proofs.lemmas.Bool.{eqb-true}
-use Rattle.std.specs.List.{AllByRecursion as All}
+use Rattle.std.specs.List.{AllByRecursion}
 use Rattle.std.proofs.lemmas.List.FromFn.{fill_by_all}
 use Rattle.arith.specs.Rows.{Bytes, Row, OneToOne}
 use Rattle.cipher.specs.Speck.{speck_takes, ror, rol, mixed, turned, word, word_bytes, keys_from, speck_keys, rounds, speck}
@@ -36,7 +36,7 @@ round_back k x y u v hx hy hu hv e f =
     let s = add_back (ror 8 x) (ror 8 u) v (omega (arith, ror_is x hx)) (omega (arith, ror_is u hu)) hv (rw same at (xor_back _ _ k e)) in
     (omega (arith, ror_is x hx, ror_is u hu), same)
 
-rounds_back : (ks : List ℕ) (x y u v : ℕ) → All W ks → W x → W y → W u → W v → rounds ks x y ≡ rounds ks u v → (x ≡ u) × (y ≡ v)
+rounds_back : (ks : List ℕ) (x y u v : ℕ) → AllByRecursion W ks → W x → W y → W u → W v → rounds ks x y ≡ rounds ks u v → (x ≡ u) × (y ≡ v)
 unfolding rounds
 rounds_back [] x y u v hk hx hy hu hv e =
     (omega (arith, ap (λ s. word s 4) e), omega (arith, ap (λ s. word s 0) e))
@@ -46,7 +46,7 @@ rounds_back (k ∷ ks) x y u v hk hx hy hu hv e =
     let b = rounds_back ks _ _ _ _ hk.1 p (turned-W y _ hy p) q (turned-W v _ hv q) e in
     round_back k x y u v hx hy hu hv b.0 b.1
 
-keys_W : (n i k a b c : ℕ) → i + n < 2 ^ 32 → W k → W a → W b → W c → All W (keys_from n i k a b c)
+keys_W : (n i k a b c : ℕ) → i + n < 2 ^ 32 → W k → W a → W b → W c → AllByRecursion W (keys_from n i k a b c)
 unfolding keys_from
 keys_W zero i k a b c hi hk ha hb hc = tt
 keys_W (suc n) i k a b c hi hk ha hb hc =

@@ -24,13 +24,14 @@ fn key_byte(key: &[u8], w: &[u8; 240], j: usize) -> u8
     let nk = key.len() / 4;
     let i = j / 4;
     let r = j % 4;
+    let before = &w[4 * i - 4..4 * i];
     let given = if i % nk == 0 {
         let c = if r == 0 { rcon(i / nk - 1) } else { 0 };
-        sub_byte(w[4 * i - 4 + (r + 1) % 4]) ^ c
+        sub_byte(before[(r + 1) % 4]) ^ c
     } else if nk > 6 && i % nk == 4 {
-        sub_byte(w[4 * i - 4 + r])
+        sub_byte(before[r])
     } else {
-        w[4 * i - 4 + r]
+        before[r]
     };
     w[j - 4 * nk] ^ given
 }

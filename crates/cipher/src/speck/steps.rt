@@ -41,8 +41,8 @@ pub(super) fn expand(key: &[u8; 16]) -> [u32; 27]
 {
     let [mut k, mut a, mut b, mut c] = words::<4>(key);
     let mut keys = [0; 27];
-    for (i, key) in keys.iter_mut().enumerate() {
-        *key = k;
+    for (i, round_key) in keys.iter_mut().enumerate() {
+        *round_key = k;
         let l = mix(a, k, i as u32);
         k = turn(k, l);
         (a, b, c) = (b, c, l);

@@ -1,7 +1,8 @@
 use Rattle.std.proofs.Common.{◌/◌, length, refl, arith, length-set}
 use Rattle.std.proofs.lemmas.List.{take_more_set}
 use Rattle.cipher.specs.Schedule.{expanded}
-use Rattle.cipher.proofs.AesRounds.{taken_lengths, expanded_more, key_byte_take}
+use Rattle.cipher.specs.AesApart.{taken_lengths}
+use Rattle.cipher.proofs.AesRounds.{expanded_more, key_byte_take}
 use Rattle.cipher.proofs.aes.schedule.key_expansion.Goals as goal
 
 pub loop-j-init : goal.loop-j-init

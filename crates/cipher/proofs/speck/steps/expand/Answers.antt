@@ -8,14 +8,14 @@ pub loop-i-preserved : goal.loop-i-preserved
 loop-i-preserved c =
     let l = c.loop-i in
     let n : 27 - l.i ≡ suc (27 - (l.i + 1)) = omega arith in
-    let t = take_more_set l.key-items l.i l.k (omega arith) in
+    let t = take_more_set l.round_key-items l.i l.k (omega arith) in
     (simp length-set l.invariant.0, rw (t, append_assoc, c.turn-k.ensures, c.mix-l.ensures) (rw (n, keys_more (27 - (l.i + 1))) at l.invariant.1))
 
 pub returns : goal.returns
 returns c =
     let l = c.loop-i in
     let n : 27 - l.i ≡ 0 = omega arith in
-    let t = take_all l.i l.key-items (omega arith) in
+    let t = take_all l.i l.round_key-items (omega arith) in
     let key = c.args.key.now in
     let w : c.words.result ≡ word key 0 ∷ word key 4 ∷ word key 8 ∷ word key 12 ∷ [] = c.words.ensures in
     rw (n, keys_none, append-nil, t) at l.invariant.1 ∙ rw w refl

@@ -1,7 +1,9 @@
 -- Where a text is cut into lines. Assumes nothing.
-use Rattle.std.proofs.Common.{◌≡◌, ℕ, zero, suc, ◌+◌, ◌-◌, ◌<◌, ◌≤◌, true, false, List, [], ◌∷◌, ◌++◌, length, get_or, take, drop, sym, refl, ap, ◌∙◌, arith, ne_eqb}
-use Rattle.std.proofs.lemmas.List.{take-append-drop, drop_more, drop-drop, take_all, length-drop}
-use Rattle.listing.specs.Lines.{lines}
+use Rattle.std.proofs.Common.{◌≡◌, ℕ, zero, suc, ◌+◌, ◌-◌, ◌<◌, ◌≤◌, true, false, List, [], ◌∷◌, ◌++◌, length, get_or, take, drop, eqb, min, sym, refl, ap, ◌∙◌, ⊎_elim, arith, eq-eqb, ne_eqb}
+use Rattle.std.proofs.lemmas.List.{take-append-drop, take-append-le, take_at, take_rest, drop_more, take_all, length-drop, at_drop_all, get_or_append_left}
+use Rattle.std.proofs.lemmas.Bool.{cases_lt, eqb-true, eqb-false}
+use Rattle.std.specs.List.{IsFirstMatchOrLen}
+use Rattle.listing.specs.Lines.{lines, line_of, ended_line, IsFirstLine}
 
 -- no line feed in it
 abbrev pub Clean : List ℕ → Type 0
@@ -39,22 +41,45 @@ cut_none (x ∷ xs) h f =
     let p = clean_take xs (length xs) (omega arith) (λ k l. f (suc k) (omega arith)) in
     lines_open x xs (f 0 (omega arith), rw (take_all (length xs) xs (omega arith)) at p)
 
--- the same of what is left of a text from `at` on, `part`, whose first line feed stands at r
-module _ (text part : List ℕ) (at r : ℕ) (ep : part ≡ drop at text) (before : (k : ℕ) → k < r → get_or part k 0 ≡ 10 → ⊥) where
-  pub line_at : at + r < length text → (r < length part → get_or part r 0 ≡ 10) → lines (drop at text) ≡ record { text = take (at + r - at) (drop at text); ended = true } ∷ lines (drop (at + r + 1) text)
-  line_at h found =
-      let d = length-drop at text in
-      let lp : length part ≡ length text - at = ap length ep ∙ d in
-      let f : get_or (drop at text) r 0 ≡ 10 = rw ep at (found (omega arith)) in
-      let b : (k : ℕ) → k < r → get_or (drop at text) k 0 ≡ 10 → ⊥ = rw ep at before in
-      let e : r ≡ at + r - at = omega arith in
-      let e2 : at + (r + 1) ≡ at + r + 1 = omega arith in
-      cut_at (drop at text) r b (omega arith) f
-      ∙ (ap (λ z. record { text = take z (drop at text); ended = true } ∷ lines (drop (r + 1) (drop at text))) e
-      ∙ ap (λ z. record { text = take (at + r - at) (drop at text); ended = true } ∷ lines z) (drop-drop (r + 1) at text ∙ ap (λ z. drop z text) e2))
+pub lines_none : (xs : List ℕ) → length xs ≡ 0 → lines xs ≡ []
+lines_none [] h = refl
+lines_none (x ∷ xs) h = absurd (omega arith)
 
-  pub line_open : at < length text → at + r ≡ length text → lines (drop at text) ≡ record { text = drop at text; ended = false } ∷ []
-  line_open h e =
-      let d = length-drop at text in
-      let b : (k : ℕ) → k < r → get_or (drop at text) k 0 ≡ 10 → ⊥ = rw ep at before in
-      cut_none (drop at text) (omega arith) (λ k l. b k (omega arith))
+pub ended_is : (p : List ℕ) → get_or p (length p - 1) 0 ≡ 10 → line_of p ≡ ended_line (take (length p - 1) p)
+ended_is p e = rw (eq-eqb _ _ e)
+
+open_is : (p : List ℕ) → (get_or p (length p - 1) 0 ≡ 10 → ⊥) → line_of p ≡ record { text = p; ended = false }
+open_is p ne = rw (ne_eqb _ _ ne)
+
+-- a text cut after its first line feed, which stands at i, or at its end where it has none
+pub first_line : (text line more : List ℕ) (i : ℕ) → text ≡ line ++ more → length line ≡ min (i + 1) (length text) → 0 < length text → IsFirstMatchOrLen (λ c. eqb c 10) text i
+    → IsFirstLine text line (take (length text - length line) (drop (length line) text))
+first_line text line more i et el pos stops = ⊎_elim fed unfed (cases_lt i (length text))
+  where
+    front : take (length line) text ≡ line
+    front = ap (take (length line)) et ∙ take_at line more (length line) refl
+
+    after : take (length text - length line) (drop (length line) text) ≡ drop (length line) text
+    after = take_rest text (length line)
+
+    shorter : length (take (length text - length line) (drop (length line) text)) < length text
+    shorter = let a = ap length after ∙ length-drop (length line) text in omega (arith, el)
+
+    fed : i < length text → IsFirstLine text line (take (length text - length line) (drop (length line) text))
+    fed lt =
+        let e : length line ≡ i + 1 = omega (arith, el) in
+        let free : (k : ℕ) → k < i → get_or text k 0 ≡ 10 → ⊥ = λ k l. eqb-false _ _ (stops.0 k 0 (omega arith) l) in
+        let feed : get_or text i 0 ≡ 10 = eqb-true _ _ (stops.1 lt 0) in
+        let m : length line - 1 ≡ i = omega arith in
+        let g : get_or line (length line - 1) 0 ≡ 10 = ap (λ z. get_or line z 0) m ∙ (sym (get_or_append_left line more 0 i (omega arith)) ∙ (ap (λ z. get_or z i 0) (sym et) ∙ feed)) in
+        let t : take (length line - 1) line ≡ take i text = ap (λ z. take z line) m ∙ (sym (take-append-le i line more (omega arith)) ∙ ap (take i) (sym et)) in
+        let d : drop (i + 1) text ≡ drop (length line) text = ap (λ z. drop z text) (sym e) in
+        (cut_at text i free lt feed ∙ (ap (λ z. ended_line z ∷ lines (drop (i + 1) text)) (sym t) ∙ (ap (λ z. z ∷ lines (drop (i + 1) text)) (sym (ended_is line g)) ∙ ap (λ z. line_of line ∷ lines z) (d ∙ sym after))), shorter)
+
+    unfed : length text ≤ i → IsFirstLine text line (take (length text - length line) (drop (length line) text))
+    unfed ge =
+        let e : length line ≡ length text = omega (arith, el) in
+        let whole : line ≡ text = sym front ∙ take_all (length line) text (omega arith) in
+        let free : (k : ℕ) → k < length text → get_or text k 0 ≡ 10 → ⊥ = λ k l. eqb-false _ _ (stops.0 k 0 (omega arith) (omega arith)) in
+        let none : lines (drop (length line) text) ≡ [] = at_drop_all lines text (length line) (omega arith) in
+        (cut_none text pos free ∙ (ap (λ z. z ∷ []) (sym (ap line_of whole ∙ open_is text (free (length text - 1) (omega arith)))) ∙ ap (λ z. line_of line ∷ z) (sym (ap lines after ∙ none))), shorter)

@@ -1,5 +1,6 @@
 -- Why a line is refused, by itself and then by its load, and how a loading goes on. Assumes nothing.
-use Rattle.std.proofs.Common.{◌≡◌, ℕ, zero, suc, ◌+◌, ◌<◌, List, [], ◌∷◌, length, take, Some, None, Ok, Err, Option, Result, sym, refl, ap, ◌∙◌, arith}
+use Rattle.std.proofs.Common.{◌≡◌, ℕ, zero, suc, ◌+◌, ◌<◌, List, [], ◌∷◌, length, take, Some, None, Ok, Err, Option, Result, MatchResult, IsErrAnd, sym, refl, ap, ◌∙◌, arith}
+use Rattle.stock.specs.Refusals.{answered}
 use Rattle.fault.specs.declared.reel.ReelFault.{ReelFault}
 use Rattle.reel.specs.Books.{Book, load_fault, after_load}
 use Rattle.fault.specs.declared.line.LineFault.{LineFault}
@@ -11,6 +12,22 @@ use Rattle.listing.specs.Loadings.{decline, after_line, after_lines, stopped, Lo
 
 err_is : {X : Type 0} (x y : X) → ◌≡◌ {A = Result ℕ X} (Err x) (Err y) → x ≡ y
 err_is x y e = cc
+
+-- What `map_err` makes, m, of a call's answer r: P is what its closure says.
+module _ (o : Option LineCause) (a : ℕ) (r : Result ℕ LineCause) (er : r ≡ answered o a) (m : Result ℕ LineFault) (P : LineCause → LineFault → Type 0) (made : MatchResult r (λ x. m ≡ Ok x) (λ c. IsErrAnd m (P c))) where
+  pub fault_made : (f : LineFault) → m ≡ Err f → (c : LineCause) × (o ≡ Some c) × P c f
+  fault_made f e = by_fault o (rw er at made)
+    where
+      by_fault : (q : Option LineCause) → MatchResult (answered q a) (λ x. m ≡ Ok x) (λ c. IsErrAnd m (P c)) → (c : LineCause) × (q ≡ Some c) × P c f
+      by_fault None h = absurd (let z : ◌≡◌ {A = ℕ} 0 1 = cc in omega arith)
+      by_fault (Some c) h = (c, refl, rw e at h)
+
+  pub none_made : (x : ℕ) → m ≡ Ok x → (o ≡ None) × (x ≡ a) × (r ≡ Ok x)
+  none_made x e = let d = by_fault o (rw er at made) in (d.0, d.1, er ∙ rw (d.0, d.1) refl)
+    where
+      by_fault : (q : Option LineCause) → MatchResult (answered q a) (λ y. m ≡ Ok y) (λ c. IsErrAnd m (P c)) → (q ≡ None) × (x ≡ a)
+      by_fault None h = (refl, cc)
+      by_fault (Some c) h = absurd (rw e at h)
 
 module _ (b : ℕ) (k : Book) (low n : ℕ) (l : Line) (en : n ≡ k.held.frame) where
   pub decline_own : (c : LineCause) → line_cause n low l ≡ Some c → decline b k low l ≡ Some c

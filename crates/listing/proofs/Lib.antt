@@ -5,3 +5,4 @@ mod Room
 mod Declines
 pub mod Shapes
 mod Round
+mod Causes

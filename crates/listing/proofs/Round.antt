@@ -208,7 +208,5 @@ over_all b from to room part fr by few ep wh et ef =
     ∙ (comes_over b from.frame wh [] from.slots 0 0 0 (map emptied from.slots) from.slots refl refl refl (good_all b from.frame wh from.slots fr by) (omega arith) (omega arith)
     ∙ ap (λ x. record { after = book_of from; answer = Ok x }) z))
 
-pub front_read : (t area end-area : List ℕ) (end : ℕ) → end ≡ length t → end-area ≡ over_front t area → take (end - 0) end-area ≡ t
-front_read t area w end e ew =
-    let z : end - 0 ≡ length t = omega arith in
-    ap (λ m. take m w) z ∙ (ap (take (length t)) ew ∙ take_at t (drop (length t) area) (length t) refl)
+pub front_read : (t area end-area : List ℕ) (end : ℕ) → end ≡ length t → end-area ≡ over_front t area → take end end-area ≡ t
+front_read t area w end e ew = ap (λ m. take m w) e ∙ (ap (take (length t)) ew ∙ take_at t (drop (length t) area) (length t) refl)

@@ -1,17 +1,21 @@
 -- A listing, one slot on. Assumes nothing.
-use Rattle.std.proofs.Common.{◌≡◌, ℕ, ◌+◌, ◌-◌, ◌*◌, ◌<◌, ◌≤◌, true, leb, List, [], ◌∷◌, ◌++◌, length, get_or, take, drop, Some, None, sym, refl, ap, ◌∙◌, ⊎_elim, arith, lt-ltb, eq-eqb, le-leb}
+use Rattle.std.proofs.Common.{◌≡◌, ℕ, ◌+◌, ◌-◌, ◌*◌, ◌<◌, ◌≤◌, ◌==◌, Bool, true, false, cond, leb, List, [], ◌∷◌, ◌++◌, length, get_or, take, drop, Some, None, Option, Result, is_ok, sym, refl, ap, ◌∙◌, arith, lt-ltb, eq-eqb, le-leb, leb-true, leb-false}
 use borrow.Author.Tests.{lt-leb}
 use borrow.Rule.Slice.PartMut.{put_mid}
-use Rattle.std.proofs.lemmas.List.{at_drop_more, append_assoc, append-nil, drop-drop, length-append, take-append-drop, length-take-le, get_or_past}
-use Rattle.std.proofs.lemmas.Bool.{cases_lt}
+use Rattle.std.proofs.lemmas.List.{at_drop_more, append_assoc, append-nil, drop-drop, length-append, take-append-drop, length-take-le}
 use Rattle.std.proofs.lemmas.Slice.{take-put_mid, drop-put_mid}
 use Rattle.stock.specs.Slots.{Slot, bad, blank, filled, Contents, slot_at, bytes_in, Framed}
-use Rattle.stock.specs.Stocks.{condition_of, condition_at, get_fault, got}
-use Rattle.stock.specs.declared.condition.Condition.TheVariants.{Filled}
+use Rattle.stock.specs.Areas.{written}
+use Rattle.stock.specs.Refusals.{answered}
+use Rattle.stock.specs.Stocks.{condition_of, condition_at, get_refusal, get_fault, got}
+use Rattle.stock.specs.declared.condition.Condition.{Condition}
+use Rattle.stock.specs.declared.condition.Condition.TheVariants.{Blank, Filled, Bad, NoSlot}
+use Rattle.fault.specs.declared.stock.StockFault.{StockFault}
+use Rattle.fault.specs.declared.line.LineFault.{LineFault}
 use Rattle.fault.specs.declared.line.LineCause.TheVariants.{NoRoom}
 use Rattle.listing.specs.Lines.{line_for, address_bytes}
 use Rattle.listing.specs.Digits.{digits_of}
-use Rattle.listing.specs.Listings.{AllBytes, lines_of, Listed, listed_in, after_text, over_front}
+use Rattle.listing.specs.Listings.{lines_of, Listed, listed_in, after_text, over_front, no_room}
 use Rattle.fault.specs.Faults.{at_line}
 use Rattle.listing.proofs.Pairs.{length_mid, length_digits, length_address}
 
@@ -52,33 +56,31 @@ module _ (all : Listed) (before area : List ℕ) (at k : ℕ) (t : List ℕ) (ts
   after_assoc : (x y : List ℕ) (l : Listed) → after_text x (after_text y l) ≡ after_text (x ++ y) l
   after_assoc x y l = ap (λ z. record { text = z; fault = l.fault }) (sym (append_assoc x y l.text))
 
-  pub sofar_more : (w end m : ℕ) (out : List ℕ) → out ≡ t → length t ≡ w → 0 < w → end ≡ at + w → m ≡ w → end ≤ length before → Sofar all before (put_mid at m area out) end (k + 1) ts
-  sofar_more w end m out eo lt pos ee em h =
-      let lo : length out ≡ w = ap length eo ∙ lt in
-      let la = so.long in
-      let fit : leb (length t) (length before - at) ≡ true = le-leb _ _ (omega arith) in
-      let tk : take end (put_mid at m area out) ≡ take at area ++ out = take-put_mid at m area out end (omega arith) (omega arith) in
-      let dr : drop end (put_mid at m area out) ≡ drop end area = drop-put_mid at m area out end (omega arith) (omega arith) (omega arith) in
-      let d2 : drop end area ≡ drop end before = ap (λ z. drop z area) ee ∙ (sym (drop-drop w at area) ∙ (ap (drop w) so.rest ∙ (drop-drop w at before ∙ ap (λ z. drop z before) (sym ee)))) in
+  pub sofar_more : (after : List ℕ) (end n : ℕ) → after ≡ written at t area → end ≡ at + length t → n ≡ k + 1 → 0 < length t → length t ≤ length before - at → Sofar all before after end n ts
+  sofar_more after end n ea ee en pos fits = rw (ea, en)
+      (let la = so.long in
+      let w : written at t area ≡ put_mid at (length t) area t = ap (λ z. take at area ++ (t ++ z)) (sym (drop-drop (length t) at area)) in
+      let fit : leb (length t) (length before - at) ≡ true = le-leb _ _ fits in
+      let wi = so.within in
+      let tk : take end (written at t area) ≡ take at area ++ t = ap (take end) w ∙ take-put_mid at (length t) area t end ee (omega arith) in
+      let dr : drop end (written at t area) ≡ drop end area = ap (drop end) w ∙ drop-put_mid at (length t) area t end (omega arith) (omega arith) refl in
+      let d2 : drop end area ≡ drop end before = ap (λ z. drop z area) ee ∙ (sym (drop-drop (length t) at area) ∙ (ap (drop (length t)) so.rest ∙ (drop-drop (length t) at before ∙ ap (λ z. drop z before) (sym ee)))) in
       let step : listed_in (length before - at) k (t ∷ ts) ≡ after_text t (listed_in (length before - at - length t) (k + 1) ts) = rw fit in
       let e : length before - at - length t ≡ length before - end = omega arith in
       record {
-        text = ap (λ z. after_text z (listed_in (length before - end) (k + 1) ts)) (tk ∙ ap (λ z. take at area ++ z) eo)
+        text = ap (λ z. after_text z (listed_in (length before - end) (k + 1) ts)) tk
             ∙ (sym (after_assoc (take at area) t (listed_in (length before - end) (k + 1) ts))
             ∙ (ap (λ z. after_text (take at area) (after_text t (listed_in z (k + 1) ts))) (sym e) ∙ (ap (after_text (take at area)) (sym step) ∙ so.text)));
         rest = dr ∙ d2;
-        within = h;
+        within = omega arith;
         few = (let q = so.few in omega arith);
-        long = length_mid at m area out (omega arith) (omega arith) ∙ la;
-      }
+        long = ap length w ∙ (length_mid at (length t) area t (omega arith) refl ∙ la);
+      })
 
   pub sofar_full : length before - at < length t → all ≡ record { text = take at area; fault = Some (at_line NoRoom (k + 1)) }
   sofar_full h =
       let step : listed_in (length before - at) k (t ∷ ts) ≡ record { text = []; fault = Some (at_line NoRoom (k + 1)) } = rw (lt-leb (length t) (length before - at) h) in
       sym so.text ∙ (ap (after_text (take at area)) step ∙ ap (λ z. record { text = z; fault = Some (at_line NoRoom (k + 1)) }) (append-nil (take at area)))
-
-pub sofar_all : (all : Listed) (before area : List ℕ) (at k : ℕ) → Sofar all before area at k [] → all ≡ record { text = take at area; fault = None }
-sofar_all all before area at k so = sym so.text ∙ ap (λ z. record { text = z; fault = None }) (append-nil (take at area))
 
 -- the front of the area holds what is listed
 pub front_of : (all : Listed) (before area : List ℕ) (at k : ℕ) (ts : List (List ℕ)) → Sofar all before area at k ts → area ≡ over_front (take at area) before
@@ -91,11 +93,47 @@ module _ (h : Contents) (i : ℕ) (l : i < length h.slots) where
   pub seen : condition_at h i ≡ condition_of (slot_at h i)
   seen = rw (lt-ltb i (length h.slots) l)
 
-filled_get : (h : Contents) (i len : ℕ) → condition_at h i ≡ Filled → len ≡ h.frame → get_fault h i len ≡ None
-filled_get h i len e f = rw (e, eq-eqb len h.frame f)
+-- what a get of a slot's frame into a row of its length tells, r being its answer and `after` the row then
+module _ (h : Contents) (i : ℕ) (row after : List ℕ) (r : Result (Unit {0}) StockFault) (er : r ≡ answered (get_fault h i (length row)) tt) where
+  refusal_none : (c : Condition) (fits : Bool) → get_refusal c i fits ≡ None → c ≡ Filled
+  refusal_none NoSlot fits e = absurd (let k : ◌≡◌ {A = ℕ} 0 1 = cc in omega arith)
+  refusal_none Bad true e = absurd (let k : ◌≡◌ {A = ℕ} 0 1 = cc in omega arith)
+  refusal_none Bad false e = absurd (let k : ◌≡◌ {A = ℕ} 0 1 = cc in omega arith)
+  refusal_none Blank true e = absurd (let k : ◌≡◌ {A = ℕ} 0 1 = cc in omega arith)
+  refusal_none Blank false e = absurd (let k : ◌≡◌ {A = ℕ} 0 1 = cc in omega arith)
+  refusal_none Filled fits e = refl
 
-pub got_filled : (h : Contents) (i : ℕ) (row after : List ℕ) → condition_at h i ≡ Filled → length row ≡ h.frame → after ≡ got h i row → after ≡ bytes_in (slot_at h i)
-got_filled h i row after e f g = let z = filled_get h i (length row) e f in rw z at g
+  allowed : is_ok r ≡ true → get_fault h i (length row) ≡ None
+  allowed ok = by_fault (get_fault h i (length row)) (sym (ap is_ok er) ∙ ok)
+    where
+      by_fault : (o : Option StockFault) → is_ok (answered {X = Unit {0}} o tt) ≡ true → o ≡ None
+      by_fault None e = refl
+      by_fault (Some f) e = absurd (let k : ◌≡◌ {A = ℕ} 0 1 = cc in omega arith)
+
+  pub got_filled : is_ok r ≡ true → after ≡ got h i row → (condition_at h i ≡ Filled) × (after ≡ bytes_in (slot_at h i))
+  got_filled ok ea = let n = allowed ok in (refusal_none (condition_at h i) (length row == h.frame) n, ea ∙ rw n)
+
+  pub not_filled : length row ≡ h.frame → is_ok r ≡ false → condition_at h i ≡ Filled → ⊥
+  not_filled len wrong e =
+      let n : get_fault h i (length row) ≡ None = rw (e, eq-eqb (length row) h.frame len) in
+      let y : is_ok r ≡ true = ap is_ok er ∙ rw n in
+      absurd (let z : ◌≡◌ {A = Bool} true false = sym y ∙ wrong in let k : ◌≡◌ {A = ℕ} 0 1 = cc in omega arith)
+
+-- whether a line has room
+module _ (n long room : ℕ) where
+  pub no_room_tells : (e : LineFault) → no_room n long room ≡ Some e → (room < long) × (e ≡ at_line NoRoom (n + 1))
+  no_room_tells e h = by_test (leb long room) refl h
+    where
+      by_test : (b : Bool) → leb long room ≡ b → cond b None (Some (at_line NoRoom (n + 1))) ≡ Some e → (room < long) × (e ≡ at_line NoRoom (n + 1))
+      by_test true q h = absurd (let k : ◌≡◌ {A = ℕ} 0 1 = cc in omega arith)
+      by_test false q h = (leb-false long room q, cc)
+
+  pub room_tells : no_room n long room ≡ None → long ≤ room
+  room_tells h = by_test (leb long room) refl h
+    where
+      by_test : (b : Bool) → leb long room ≡ b → cond b None (Some (at_line NoRoom (n + 1))) ≡ None → long ≤ room
+      by_test true q h = leb-true long room q
+      by_test false q h = absurd (let k : ◌≡◌ {A = ℕ} 0 1 = cc in omega arith)
 
 module _ (s : Slot) where
   pub framed_filled : (n : ℕ) → Framed n s → condition_of s ≡ Filled → length (bytes_in s) ≡ n
@@ -113,7 +151,3 @@ no_bytes blank ne k = omega arith
 
 pub sofar_at : (all : Listed) (before area : List ℕ) (at k : ℕ) (ts us : List (List ℕ)) → ts ≡ us → Sofar all before area at k ts → Sofar all before area at k us
 sofar_at all before area at k ts us e so = rw e at so
-
-pub all_bytes : (ss : List Slot) (n : ℕ) → length ss ≤ n → ((i : ℕ) → i < n → (k : ℕ) → get_or (bytes_in (get_or ss i bad)) k 0 < 256) → AllBytes ss
-all_bytes ss n h f i k =
-    ⊎_elim (λ (l : i < n). f i l k) (λ (l : n ≤ i). rw (get_or_past ss i bad (omega arith)) (omega arith)) (cases_lt i n)

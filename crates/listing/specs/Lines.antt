@@ -1,5 +1,5 @@
 -- A text as lines, and a line as an address and a frame. Assumes nothing.
-use Rattle.std.specs.Prelude.{ℕ, ◌+◌, ◌*◌, ◌/◌, ◌%◌, Bool, true, false, cond, ◌&&◌, List, [], ◌∷◌, ◌++◌, length, take, drop, Some, None, Option, ◌==◌, nat_le, slice_index}
+use Rattle.std.specs.Prelude.{◌≡◌, ℕ, ◌+◌, ◌-◌, ◌*◌, ◌/◌, ◌%◌, ◌<◌, Bool, true, false, cond, ◌&&◌, List, [], ◌∷◌, ◌++◌, length, take, drop, Some, None, Option, ◌==◌, nat_le, slice_index}
 use Rattle.stock.specs.Refusals.{first}
 use Rattle.fault.specs.declared.line.LineCause.{LineCause}
 use Rattle.fault.specs.declared.line.LineCause.TheVariants.{NotALine, NotDigits, NotAbove}
@@ -14,6 +14,10 @@ pub record Line : Type 0 where
 abbrev pub ended_line : List ℕ → Line
 ended_line t = record { text = t; ended = true }
 
+-- a piece of a text that ends after its first line feed, or without one, as a line
+abbrev pub line_of : List ℕ → Line
+line_of p = cond (slice_index p (length p - 1) == 10) (ended_line (take (length p - 1) p)) (record { text = p; ended = false })
+
 abbrev pub begun : ℕ → List Line → List Line
 begun c [] = record { text = c ∷ []; ended = false } ∷ []
 begun c (l ∷ ls) = record { text = c ∷ l.text; ended = l.ended } ∷ ls
@@ -22,6 +26,10 @@ begun c (l ∷ ls) = record { text = c ∷ l.text; ended = l.ended } ∷ ls
 abbrev pub lines : List ℕ → List Line
 lines [] = []
 lines (c ∷ cs) = cond (c == 10) (record { text = []; ended = true } ∷ lines cs) (begun c (lines cs))
+
+-- the text begins with this line, up to and with its line feed, and goes on with `after`
+abbrev pub IsFirstLine : List ℕ → List ℕ → List ℕ → Type 0
+IsFirstLine text line after = (lines text ≡ line_of line ∷ lines after) × (length after < length text)
 
 -- an address as four bytes, highest first, and back
 unfoldable pub address_bytes : ℕ → List ℕ

@@ -35,6 +35,10 @@ pub record Listed : Type 0 where
 abbrev pub after_text : List ℕ → Listed → Listed
 after_text t l = record { text = t ++ l.text; fault = l.fault }
 
+-- 14: a line so long has no room; n lines are written before it
+abbrev pub no_room : ℕ → ℕ → ℕ → Option LineFault
+no_room n long room = cond (nat_le long room) None (Some (at_line NoRoom (n + 1)))
+
 -- line after line into so much room, n lines being written: 14 at the first that does not fit
 abbrev pub listed_in : ℕ → ℕ → List (List ℕ) → Listed
 listed_in room n [] = record { text = []; fault = None }

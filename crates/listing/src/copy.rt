@@ -23,5 +23,5 @@ pub fn copy_frames<St: Stock, R: Loadable>(
     ensures rest { R.rest reel.new ≡ R.rest reel.old }
 {
     let end = list_frames(stock, area)?;
-    load_listing(reel, &area[0..end])
+    load_listing(reel, &area[..end])
 }

@@ -1,6 +1,9 @@
 // Hex digits, 0 to 9 and A to F, two to a byte.
-ghost use Rattle.std.specs.Prelude.{◌≡◌, ℕ, ◌*◌, ◌<◌, true, length};
-ghost use Rattle.listing.specs.Digits.{hex, is_hex, hex_value, digits_of, all_hex, row_of};
+ghost use Rattle.std.specs.Prelude.{◌≡◌, ◌∷◌, [], ◌*◌, ◌<◌, length, OnOk};
+ghost use Rattle.stock.specs.Refusals.{answered};
+ghost use Rattle.listing.specs.Digits.{hex, hex_value, digits_of, row_of, not_hex};
+
+use fault::line::LineCause;
 
 fn digit(v: u8) -> u8
     requires { v < 16 }
@@ -9,18 +12,23 @@ fn digit(v: u8) -> u8
     if v < 10 { b'0' + v } else { b'A' - 10 + v }
 }
 
-fn is_digit(c: u8) -> bool
-    ensures { result ≡ is_hex c }
+// The two digits of a byte.
+fn digits(byte: u8) -> [u8; 2]
+    ensures { result ≡ digits_of (byte ∷ []) }
 {
-    (b'0' <= c && c <= b'9') || (b'A' <= c && c <= b'F')
+    [digit(byte / 16), digit(byte % 16)]
 }
 
-fn value(c: u8) -> u8
-    requires { is_hex c ≡ true }
-    ensures value { result ≡ hex_value c }
-    ensures small { result < 16 }
+// What a digit stands for.
+fn value(c: u8) -> Result<u8, LineCause>
+    ensures answer { result ≡ answered (not_hex (c ∷ [])) (hex_value c) }
+    ensures small { OnOk result (hex_value c < 16) }
 {
-    if c <= b'9' { c - b'0' } else { c - (b'A' - 10) }
+    match c {
+        b'0'..=b'9' => Ok(c - b'0'),
+        b'A'..=b'F' => Ok(c - b'A' + 10),
+        _ => Err(LineCause::NotDigits),
+    }
 }
 
 // Writes each byte as two digits.
@@ -28,28 +36,20 @@ pub(crate) fn write_row(row: &[u8], out: &mut [u8])
     requires { length out.old ≡ 2 * length row.now }
     ensures { out.new ≡ digits_of row.now }
 {
-    for i in 0..row.len() {
-        out[2 * i] = digit(row[i] / 16);
-        out[2 * i + 1] = digit(row[i] % 16);
+    for (i, byte) in row.iter().enumerate() {
+        out[2 * i..2 * i + 2].copy_from_slice(&digits(*byte));
     }
 }
 
-// Reads two digits to a byte; answers whether the text is digits alone.
-pub(crate) fn read_row(text: &[u8], row: &mut [u8]) -> bool
+// Reads two digits to a byte. Refused by 12 where the text is not digits alone.
+pub(crate) fn read_row(text: &[u8], row: &mut [u8]) -> Result<(), LineCause>
     requires { length text.now ≡ 2 * length row.old }
-    ensures told { result ≡ all_hex text.now }
-    ensures row { result ≡ true → row.new ≡ row_of text.now }
+    ensures answer { result ≡ answered (not_hex text.now) tt }
+    ensures row { OnOk result (row.new ≡ row_of text.now) }
 {
-    for i in 0..row.len() {
-        let high = text[2 * i];
-        let low = text[2 * i + 1];
-        if !is_digit(high) {
-            return false;
-        }
-        if !is_digit(low) {
-            return false;
-        }
-        row[i] = value(high) * 16 + value(low);
+    let (pairs, _) = text.as_chunks::<2>();
+    for (i, [high, low]) in pairs.iter().enumerate() {
+        row[i] = value(*high)? * 16 + value(*low)?;
     }
-    true
+    Ok(())
 }

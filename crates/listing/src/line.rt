@@ -1,30 +1,14 @@
-// One line of a listing: writing it, finding where it ends, and reading it.
-ghost use Rattle.std.specs.Prelude.{◌≡◌, ℕ, ◌+◌, ◌*◌, ◌^◌, ◌<◌, ◌≤◌, true, length, take, IfOk, None, ◌≢◌, slice_index};
+// One line of a listing: writing it, cutting it off a text, and reading it.
+ghost use Rattle.std.specs.Prelude.{◌≡◌, ℕ, ◌+◌, ◌*◌, ◌^◌, ◌<◌, ◌≤◌, length, MatchOption, IfOk, OnOk, slice_index};
 ghost use Rattle.stock.specs.Refusals.{answered};
-ghost use Rattle.listing.specs.Digits.{row_of};
-ghost use Rattle.listing.specs.Lines.{ended_line, spelt, address_bytes, address_from, line_for, address_in, frame_in, line_cause};
+ghost use Rattle.listing.specs.Digits.{not_hex, row_of};
+ghost use Rattle.listing.specs.Lines.{line_of, IsFirstLine, address_from, line_for, address_in, frame_in, line_cause};
 
 use crate::digit::{read_row, write_row};
 use fault::line::LineCause;
 
-fn bytes_of(address: u64) -> [u8; 4]
-    ensures { result ≡ address_bytes address }
-{
-    [
-        (address / 16777216 % 256) as u8,
-        (address / 65536 % 256) as u8,
-        (address / 256 % 256) as u8,
-        (address % 256) as u8,
-    ]
-}
-
-fn address_from(row: &[u8]) -> u64
-    requires { length row.now ≡ 4 }
-    ensures value { result ≡ address_from row.now }
-    ensures small { result < 2 ^ 32 }
-{
-    row[0] as u64 * 16777216 + row[1] as u64 * 65536 + row[2] as u64 * 256 + row[3] as u64
-}
+// The most bytes that a frame has.
+pub(crate) const LONGEST_FRAME: usize = 8208;
 
 // Writes the line of a frame.
 pub(crate) fn write_line(address: u64, frame: &[u8], out: &mut [u8])
@@ -33,58 +17,49 @@ pub(crate) fn write_line(address: u64, frame: &[u8], out: &mut [u8])
     ensures bytes { (k : ℕ) → slice_index frame.now k < 256 }
 {
     let feed = out.len() - 1;
-    write_row(&bytes_of(address), &mut out[0..8]);
+    write_row(&address.to_be_bytes()[4..], &mut out[..8]);
     out[8] = b' ';
     write_row(frame, &mut out[9..feed]);
     out[feed] = b'\n';
 }
 
-// How many bytes come before the first line feed.
-pub(crate) fn feed_in(text: &[u8]) -> usize
-    ensures within { result ≤ length text.now }
-    ensures before { (k : ℕ) → k < result → slice_index text.now k ≢ 10 }
-    ensures found { result < length text.now → slice_index text.now result ≡ 10 }
+// The first line of a text, with its line feed if it has one, and what comes after; none where the text is empty.
+pub(crate) fn split_line(text: &[u8]) -> Option<(&[u8], &[u8])>
+    ensures { MatchOption result (length text.now ≡ 0) (λ p. IsFirstLine text.now p.0.now p.1.now) }
 {
-    for (i, c) in text.iter().enumerate() {
-        if *c == b'\n' {
-            return i;
-        }
-    }
-    text.len()
+    let line = text.split_inclusive(|c| *c == b'\n').next()?;
+    Some((line, &text[line.len()..]))
 }
 
-// Reads the two rows of digits of a line; answers whether it is spelt as one.
-fn read_rows(text: &[u8], head: &mut [u8], frame: &mut [u8]) -> bool
-    requires { (length head.old ≡ 4) × (length text.now ≡ 9 + 2 * length frame.old) }
-    ensures told { result ≡ spelt text.now }
-    ensures head { result ≡ true → head.new ≡ row_of (take 8 text.now) }
-    ensures frame { result ≡ true → frame.new ≡ frame_in text.now }
-{
-    if !read_row(&text[0..8], head) {
-        return false;
-    }
-    if text[8] != b' ' {
-        return false;
-    }
-    let end = text.len();
-    read_row(&text[9..end], frame)
-}
-
-// The address of a line that a line feed ends; its frame goes into `frame`.
-pub(crate) fn read_line(text: &[u8], low: u64, frame: &mut [u8]) -> Result<u64, LineCause>
-    requires { length frame.old ≤ 8208 }
-    ensures answer { result ≡ answered (line_cause (length frame.old) low (ended_line text.now)) (address_in text.now) }
-    ensures frame { line_cause (length frame.old) low (ended_line text.now) ≡ None → frame.new ≡ frame_in text.now }
+// The address that eight digits spell.
+fn read_address(text: &[u8]) -> Result<u64, LineCause>
+    requires { length text.now ≡ 8 }
+    ensures answer { result ≡ answered (not_hex text.now) (address_from (row_of text.now)) }
     ensures small { IfOk result (λ a. a < 2 ^ 32) }
 {
+    let mut bytes = [0u8; 4];
+    read_row(text, &mut bytes)?;
+    Ok(u64::from(u32::from_be_bytes(bytes)))
+}
+
+// The address of a line; its frame goes into `frame`. Refused by 11 to 13.
+pub(crate) fn read_line(line: &[u8], low: u64, frame: &mut [u8]) -> Result<u64, LineCause>
+    requires { length frame.old ≤ 8208 }
+    ensures answer { result ≡ answered (line_cause (length frame.old) low (line_of line.now)) (address_in (line_of line.now).text) }
+    ensures frame { OnOk result (frame.new ≡ frame_in (line_of line.now).text) }
+    ensures small { IfOk result (λ a. a < 2 ^ 32) }
+{
+    let [text @ .., b'\n'] = line else {
+        return Err(LineCause::NotALine);
+    };
     if text.len() != 9 + 2 * frame.len() {
         return Err(LineCause::NotALine);
     }
-    let mut head = [0u8; 4];
-    if !read_rows(text, &mut head, frame) {
+    let address = read_address(&text[..8])?;
+    if text[8] != b' ' {
         return Err(LineCause::NotDigits);
     }
-    let address = address_from(&head);
+    read_row(&text[9..], frame)?;
     if address < low {
         return Err(LineCause::NotAbove);
     }

@@ -1,29 +1,48 @@
 // Listing a stock.
-ghost use Rattle.std.specs.Prelude.{◌≡◌, ℕ, ◌+◌, ◌*◌, ◌<◌, ◌≤◌, length, IfOk, OnOk, slice_index};
-ghost use Rattle.stock.specs.Slots.{slot_at, bytes_in};
-ghost use Rattle.stock.specs.Stocks.{condition_at};
-ghost use Rattle.stock.specs.declared.condition.Condition.TheVariants.{Filled};
-ghost use Rattle.listing.specs.Listings.{lines_of, listing_in, AllBytes, WholeLines, RoomForAll, listing_answer, listing_area};
+ghost use Rattle.std.specs.Prelude.{◌≡◌, ℕ, ◌+◌, ◌-◌, ◌*◌, ◌<◌, ◌≤◌, length, IfOk, OnOk, slice_index};
+ghost use Rattle.stock.specs.Areas.{written};
+ghost use Rattle.stock.specs.Refusals.{answered, unless};
+ghost use Rattle.listing.specs.Listings.{lines_of, listing_in, AllBytes, WholeLines, RoomForAll, listing_answer, listing_area, no_room};
 ghost use Rattle.listing.specs.Lines.{line_for};
 
-use crate::line::write_line;
+use crate::line::{LONGEST_FRAME, write_line};
 use fault::line::{LineCause, LineFault};
-use stock::condition::Condition;
 use stock::stock::Stock;
 
-// The longest frame.
-const MOST: usize = 8208;
+// A listing that is being written: its area, and how many bytes and lines of it are written.
+#[derive(Drop)]
+struct Listing<'a> {
+    area: &'a mut [u8],
+    bytes: usize,
+    lines: u64,
+}
 
-// Writes the line of a filled slot; `row` is where its frame is kept.
-fn write_slot<St: Stock>(stock: &St, slot: u64, row: &mut [u8], out: &mut [u8])
-    requires filled { condition_at (St.held stock.now) slot ≡ Filled }
-    requires row { length row.old ≡ (St.held stock.now).frame }
-    requires out { length out.old ≡ 10 + 2 * (St.held stock.now).frame }
-    ensures out { out.new ≡ line_for slot (bytes_in (slot_at (St.held stock.now) slot)) }
-    ensures bytes { (k : ℕ) → slice_index (bytes_in (slot_at (St.held stock.now) slot)) k < 256 }
-{
-    let _ = stock.get(slot, row);
-    write_line(slot, row, out);
+impl Listing<'_> {
+    // Writes the line of a frame behind the others. Refused by 14, with nothing altered, where it has no room.
+    fn add(&mut self, address: u64, frame: &[u8]) -> Result<(), LineFault>
+        requires within { self.old.bytes ≤ length self.old.area.now }
+        requires few { self.old.lines ≤ self.old.bytes }
+        requires short { length frame.now ≤ 8208 }
+        ensures answer { result ≡ answered (no_room self.old.lines (10 + 2 * length frame.now) (length self.old.area.now - self.old.bytes)) tt }
+        ensures same_area { self.new.area.ghost_name ≡ self.old.area.ghost_name }
+        ensures area { self.new.area.now ≡ unless (no_room self.old.lines (10 + 2 * length frame.now) (length self.old.area.now - self.old.bytes)) (written self.old.bytes (line_for address frame.now) self.old.area.now) self.old.area.now }
+        ensures bytes { OnOk result (self.new.bytes ≡ self.old.bytes + (10 + 2 * length frame.now)) }
+        ensures lines { OnOk result (self.new.lines ≡ self.old.lines + 1) }
+        ensures fit { OnOk result ((k : ℕ) → slice_index frame.now k < 256) }
+    {
+        let width = 10 + 2 * frame.len();
+        if self.area.len() - self.bytes < width {
+            return Err(LineFault {
+                cause: LineCause::NoRoom,
+                line: self.lines + 1,
+            });
+        }
+        let end = self.bytes + width;
+        write_line(address, frame, &mut self.area[self.bytes..end]);
+        self.bytes = end;
+        self.lines += 1;
+        Ok(())
+    }
 }
 
 // Writes the lines of the filled slots into the area, in rising order, and answers how many bytes they are. Refused by
@@ -36,25 +55,17 @@ pub fn list_frames<St: Stock>(stock: &St, area: &mut [u8]) -> Result<usize, Line
     ensures within { IfOk result (λ n. n ≤ length area.old) }
     ensures bytes { OnOk result (AllBytes (St.held stock.now).slots) }
 {
-    let mut row = [0u8; MOST];
-    let frame_len = stock.frame_len();
-    let width = 10 + 2 * frame_len;
-    let mut at = 0;
-    let mut written = 0;
+    let mut room = [0u8; LONGEST_FRAME];
+    let row = &mut room[..stock.frame_len()];
+    let mut listing = Listing {
+        area,
+        bytes: 0,
+        lines: 0,
+    };
     for slot in 0..stock.slots() {
-        let Condition::Filled = stock.condition(slot) else {
-            continue;
-        };
-        if area.len() - at < width {
-            return Err(LineFault {
-                cause: LineCause::NoRoom,
-                line: written + 1,
-            });
+        if stock.get(slot, row).is_ok() {
+            listing.add(slot, row)?;
         }
-        let end = at + width;
-        write_slot(stock, slot, &mut row[0..frame_len], &mut area[at..end]);
-        at = end;
-        written += 1;
     }
-    Ok(at)
+    Ok(listing.bytes)
 }

@@ -1,4 +1,4 @@
-use Rattle.std.proofs.Common.{◌≡◌, ℕ, ◌-◌, List, length, take, sym, ap, ◌∙◌}
+use Rattle.std.proofs.Common.{◌≡◌, ℕ, List, length, take, sym, ap, ◌∙◌}
 use Rattle.stock.specs.Slots.{Contents}
 use Rattle.stock.proofs.Allowed.{ok_answers}
 use Rattle.reel.specs.Books.{Book}
@@ -14,7 +14,7 @@ returns g c =
     let area : List ℕ = c.args.area.now in
     let l : Listed = listing_in from.slots (length area) in
     let o = ok_answers _ _ _ c.in_ok-end.ensures.answer in
-    let p : take (c.in_ok-end.end - 0) c.list_frames.new.area ≡ l.text = front_read l.text area c.list_frames.new.area c.in_ok-end.end o.1 c.list_frames.ensures.area in
+    let p : take c.in_ok-end.end c.list_frames.new.area ≡ l.text = front_read l.text area c.list_frames.new.area c.in_ok-end.end o.1 c.list_frames.ensures.area in
     let e = copied_is g.R.Loadable.block to l _ o.0 p in
     record {
       answer = c.load_listing.ensures.answer ∙ ap (λ (z : Loading). z.answer) (sym e);

@@ -1,36 +1,30 @@
-use Rattle.std.proofs.Common.{◌≡◌, ℕ, ◌+◌, ◌*◌, ◌<◌, ◌≤◌, [], ◌++◌, length, take, sym, ap, ◌∙◌, arith}
-use Rattle.std.proofs.lemmas.List.{at_drop_all, append-nil, take_all}
-use Rattle.listing.specs.Digits.{all_hex, row_of}
-use Rattle.listing.proofs.Pairs.{hex_more, hex_no, hex_no_low, read_more}
+use Rattle.std.proofs.Common.{◌/◌, ◌<◌, length, Err, ap, ◌∙◌, arith}
+use Rattle.std.proofs.lemmas.Result.{err_from_is_err_and}
+use Rattle.stock.proofs.Allowed.{ok_answers, err_answers}
+use Rattle.listing.proofs.Pairs.{high_stops, low_stops, hex_more, read_more}
 use Rattle.listing.proofs.digit.read_row.Goals as goal
 
-sum_is : (a b x y : ℕ) → a ≡ x → b ≡ y → a * 16 + b ≡ x * 16 + y
-sum_is a b x y e f = rw (e, f)
+pub returns-in_err-value-clause-answer : goal.returns-in_err-value-clause-answer
+returns-in_err-value-clause-answer c =
+    let p = err_from_is_err_and c.from_residual.result c.from_residual.ensures.1 in
+    let h : c.loop-i.i < length c.args.text.now / 2 = omega arith in
+    let e = high_stops c.args.text.now _ c.loop-i.i _ c.as_chunks.ensures.front h c.loop-i.invariant.0 _ (err_answers _ _ _ c.in_err-value.ensures.answer) in
+    rw e (p.1 ∙ ap Err p.2)
 
-pub returns-then-not-is_digit : goal.returns-then-not-is_digit
-returns-then-not-is_digit c =
-    let h : 2 * c.loop-i.i + 1 < length c.args.text.now = omega arith in
-    record { told = sym (hex_no c.args.text.now c.loop-i.i h (sym c.if-not-is_digit.ensures)) ∙ c.loop-i.invariant.0; row = λ e. absurd (let k : ◌≡◌ {A = ℕ} 0 1 = cc in omega arith) }
-
-pub returns-then-not-is_digit-2 : goal.returns-then-not-is_digit-2
-returns-then-not-is_digit-2 c =
-    let h : 2 * c.loop-i.i + 1 < length c.args.text.now = omega arith in
-    record { told = sym (hex_no_low c.args.text.now c.loop-i.i h (sym c.if-not-is_digit.ensures) (sym c.if-not-is_digit-2.ensures)) ∙ c.loop-i.invariant.0; row = λ e. absurd (let k : ◌≡◌ {A = ℕ} 0 1 = cc in omega arith) }
+pub returns-in_err-row-clause-answer : goal.returns-in_err-row-clause-answer
+returns-in_err-row-clause-answer c =
+    let p = err_from_is_err_and c.from_residual-in_err-row.result c.from_residual-in_err-row.ensures.1 in
+    let h : c.loop-i.i < length c.args.text.now / 2 = omega arith in
+    let o = ok_answers _ _ _ c.in_ok-value.ensures.answer in
+    let e = low_stops c.args.text.now _ c.loop-i.i _ c.as_chunks.ensures.front h c.loop-i.invariant.0 _ o.0 (err_answers _ _ _ c.in_err-row.ensures.answer) in
+    rw e (p.1 ∙ ap Err p.2)
 
 pub loop-i-preserved : goal.loop-i-preserved
 loop-i-preserved c =
-    let h : 2 * c.loop-i.i + 1 < length c.args.text.now = omega arith in
+    let h : c.loop-i.i < length c.args.text.now / 2 = omega arith in
     let l : c.loop-i.i < length c.loop-i.row = (let k = c.loop-i.auto.row in omega arith) in
-    let x = sum_is _ _ _ _ c.value.ensures.value c.value-in-loop-i.ensures.value in (
-      hex_more c.args.text.now c.loop-i.i h (sym c.if-not-is_digit.ensures) (sym c.if-not-is_digit-2.ensures) ∙ c.loop-i.invariant.0,
-      read_more c.args.text.now c.loop-i.i h _ _ _ l x c.loop-i.invariant.1,
+    let o = ok_answers _ _ _ c.in_ok-value.ensures.answer in
+    let u = ok_answers _ _ _ c.in_ok-row.ensures.answer in (
+      hex_more c.args.text.now _ c.loop-i.i _ c.as_chunks.ensures.front h c.loop-i.invariant.0 o.0 u.0,
+      read_more c.args.text.now _ c.loop-i.i _ c.as_chunks.ensures.front h c.loop-i.invariant.0 _ _ _ _ l o.1 u.1 c.loop-i.invariant.1,
     )
-
-pub returns : goal.returns
-returns c =
-    let lt : length c.args.text.now ≤ 2 * c.loop-i.i = omega arith in
-    let lr : length c.loop-i.row ≤ c.loop-i.i = (let k = c.loop-i.auto.row in omega arith) in
-    record {
-      told = sym (at_drop_all all_hex c.args.text.now (2 * c.loop-i.i) lt) ∙ c.loop-i.invariant.0;
-      row = λ _. sym (append-nil c.loop-i.row) ∙ (ap (λ z. z ++ []) (sym (take_all c.loop-i.i c.loop-i.row lr)) ∙ (ap (λ z. take c.loop-i.i c.loop-i.row ++ z) (sym (at_drop_all row_of c.args.text.now (2 * c.loop-i.i) lt)) ∙ c.loop-i.invariant.1));
-    }

@@ -1,10 +1,10 @@
-use Rattle.std.proofs.Common.{◌≡◌, ℕ, ◌+◌, ◌-◌, ◌*◌, List, [], ◌∷◌, ◌++◌, length, take, set, sym, refl, ap, ◌∙◌, arith}
+use Rattle.std.proofs.Common.{◌≡◌, ℕ, ◌+◌, ◌-◌, ◌*◌, List, [], ◌∷◌, ◌++◌, length, take, drop, set, sym, refl, ap, ◌∙◌, arith}
 use borrow.Rule.Slice.PartMut.{put_mid, post_of}
 use Rattle.std.proofs.lemmas.List.{append_assoc, take_at, take_all, take_more_set, length-set, length-append, length-drop}
 use Rattle.std.proofs.lemmas.Slice.{take-put_mid}
 use Rattle.listing.specs.Digits.{digits_of}
 use Rattle.listing.specs.Lines.{address_bytes}
-use Rattle.listing.proofs.Pairs.{length_mid, length_digits, length_address}
+use Rattle.listing.proofs.Pairs.{length_mid, length_digits, length_address, low_bytes}
 use Rattle.listing.proofs.line.write_line.Goals as goal
 
 -- an area filled from its front, part after part
@@ -25,10 +25,10 @@ filled_up xs h b n m lx lh lb em =
     let all : take (9 + n + 1) (set x3 (9 + n) 10) ≡ set x3 (9 + n) 10 = take_all (9 + n + 1) (set x3 (9 + n) 10) (let q = length-set x3 (9 + n) 10 in omega arith) in
     ap (λ z. set x3 z 10) e ∙ (sym all ∙ (t4 ∙ (ap (λ z. z ++ 10 ∷ []) (t3 ∙ ap (λ z. z ++ b) (t2 ∙ ap (λ z. z ++ 32 ∷ []) t1)) ∙ simp append_assoc)))
 
-pub returns : goal.returns
-returns c =
-    let a : c.write_row.new.out ≡ digits_of (address_bytes c.args.address) = c.write_row.ensures ∙ ap digits_of c.bytes_of.ensures in
+pub returns-clause-line : goal.returns-clause-line
+returns-clause-line c =
+    let a : c.write_row.new.out ≡ digits_of (address_bytes c.args.address) = c.write_row.ensures ∙ ap digits_of (ap (λ z. take 4 (drop 4 z)) c.to_be_bytes.ensures ∙ low_bytes c.args.address) in
     let b = c.write_row-2.ensures in
     let lh : length c.write_row.new.out ≡ 8 = ap length a ∙ length_address c.args.address in
     let lb : length c.write_row-2.new.out ≡ 2 * length c.args.frame.now = ap length b ∙ length_digits c.args.frame.now in
-    record { line = filled_up c.args.out.now _ _ (2 * length c.args.frame.now) _ c.requires lh lb refl ∙ (ap (λ z. z ++ (32 ∷ (c.write_row-2.new.out ++ 10 ∷ []))) a ∙ ap (λ z. digits_of (address_bytes c.args.address) ++ (32 ∷ (z ++ 10 ∷ []))) b); bytes = λ k. (c.type_inv.frame k).fits }
+    filled_up c.args.out.now _ _ (2 * length c.args.frame.now) _ c.requires lh lb refl ∙ (ap (λ z. z ++ (32 ∷ (c.write_row-2.new.out ++ 10 ∷ []))) a ∙ ap (λ z. digits_of (address_bytes c.args.address) ++ (32 ∷ (z ++ 10 ∷ []))) b)

@@ -7,9 +7,6 @@ ghost use Rattle.listing.specs.Lines.{line_of, IsFirstLine, address_from, line_f
 use crate::digit::{read_row, write_row};
 use fault::line::LineCause;
 
-// The most bytes that a frame has.
-pub(crate) const LONGEST_FRAME: usize = 8208;
-
 // Writes the line of a frame.
 pub(crate) fn write_line(address: u64, frame: &[u8], out: &mut [u8])
     requires { length out.old ≡ 10 + 2 * length frame.now }

@@ -5,8 +5,9 @@ ghost use Rattle.stock.specs.Refusals.{answered, unless};
 ghost use Rattle.listing.specs.Listings.{lines_of, listing_in, AllBytes, WholeLines, RoomForAll, listing_answer, listing_area, no_room};
 ghost use Rattle.listing.specs.Lines.{line_for};
 
-use crate::line::{LONGEST_FRAME, write_line};
+use crate::line::write_line;
 use fault::line::{LineCause, LineFault};
+use stock::size::FrameSize;
 use stock::stock::Stock;
 
 // A listing that is being written: its area, and how many bytes and lines of it are written.
@@ -55,7 +56,7 @@ pub fn list_frames<St: Stock>(stock: &St, area: &mut [u8]) -> Result<usize, Line
     ensures within { IfOk result (λ n. n ≤ length area.old) }
     ensures bytes { OnOk result (AllBytes (St.held stock.now).slots) }
 {
-    let mut room = [0u8; LONGEST_FRAME];
+    let mut room = [0u8; FrameSize::MOST];
     let row = &mut room[..stock.frame_len()];
     let mut listing = Listing {
         area,

@@ -4,9 +4,10 @@ ghost use Rattle.stock.specs.Refusals.{answered, unless};
 ghost use Rattle.listing.specs.Lines.{lines, line_of, address_in};
 ghost use Rattle.listing.specs.Loadings.{decline, after_line, loaded, after_lines, lines_loaded, FirstRefused};
 
-use crate::line::{LONGEST_FRAME, read_line, split_line};
+use crate::line::{read_line, split_line};
 use fault::line::{LineCause, LineFault};
 use reel::load::Loadable;
+use stock::size::FrameSize;
 
 // Loads one line; `row` is where its frame is kept.
 fn load_line<R: Loadable>(
@@ -35,7 +36,7 @@ pub fn load_listing<R: Loadable>(reel: &mut R, text: &[u8]) -> Result<u64, LineF
     ensures first { FirstRefused R.block (R.book reel.old) (lines text.now) result }
     ensures rest { R.rest reel.new ≡ R.rest reel.old }
 {
-    let mut room = [0u8; LONGEST_FRAME];
+    let mut room = [0u8; FrameSize::MOST];
     let row = &mut room[..reel.frame_len()];
     let mut rest = text;
     let mut low = 0;

@@ -100,9 +100,9 @@ module _ (n s : ℕ) (bads xs : List ℕ) (i : ℕ) (h : i < s) where
   body_is bs e = by_test (listed bads i) (mark_at n xs i == 1) (body_at n xs i) (sym seen ∙ e)
     where
       by_test : (b m : Bool) (ys : List ℕ) → cond b bad (cond m (filled ys) blank) ≡ filled bs → ys ≡ bs
-      by_test true m ys z = absurd (let k : ◌≡◌ {A = ℕ} 0 1 = cc in omega arith)
+      by_test true m ys z = cc
       by_test false true ys z = cc
-      by_test false false ys z = absurd (let k : ◌≡◌ {A = ℕ} 0 1 = cc in omega arith)
+      by_test false false ys z = cc
 
 -- the byte that was read where slot i begins is its mark
 pub mark_is : (n : ℕ) (xs : List ℕ) (i base x : ℕ) → base ≡ i * (n + 1) → base < length xs → x ≡ slice_index_or xs base x → mark_at n xs i ≡ x

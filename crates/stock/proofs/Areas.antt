@@ -1,9 +1,9 @@
 -- An area with bytes written into it, one byte or a row at a time. Assumes nothing.
-use Rattle.std.proofs.Common.{◌≡◌, ℕ, suc, ◌+◌, ◌<◌, ◌≤◌, ◌⊎◌, List, [], ◌∷◌, ◌++◌, length, get_or, set, append_assoc, take, drop, sym, ap, ◌∙◌, inl, inr, arith, rules}
+use Rattle.std.proofs.Common.{◌≡◌, ℕ, ◌+◌, ◌<◌, ◌≤◌, ◌⊎◌, List, [], ◌∷◌, ◌++◌, length, get_or, set, append_assoc, take, drop, sym, ap, ◌∙◌, inl, inr, arith, rules}
 use borrow.Rule.Slice.PartMut.{put_mid}
 use Rattle.std.proofs.lemmas.List.{places, drop-drop, get_or-take, get_or-drop, length-take-le, length-take, length-drop, ext_get_or, take_at, drop_at, take_more}
-use Rattle.std.proofs.Math.Seq.{set-append_seam, drop-cons}
-use Rattle.stock.specs.Areas.{written, row_at}
+use Rattle.std.proofs.Math.Seq.{set-append_seam}
+use Rattle.stock.specs.Areas.{written}
 
 pub written_mid : (at k : ℕ) (bs ps area : List ℕ) → ps ≡ bs → k ≡ length bs → put_mid at k area ps ≡ written at bs area
 written_mid at k bs ps area e l = ap (put_mid at k area) e ∙ (ap (λ z. put_mid at z area bs) l ∙ ap (λ z. take at area ++ (bs ++ z)) (drop-drop (length bs) at area))
@@ -39,10 +39,3 @@ written_behind at m bs area fits =
     ∙ (ap (λ z. set (take at area ++ (get_or area at 0 ∷ (bs ++ drop (at + 1 + length bs) area))) z m) (sym l)
     ∙ (set-append_seam (take at area) (get_or area at 0) (bs ++ drop (at + 1 + length bs) area) m
     ∙ (let e : at + 1 + length bs ≡ at + length (m ∷ bs) = omega arith in ap (λ z. take at area ++ (m ∷ (bs ++ drop z area))) e))))
-
--- the row that begins with the byte at `at`
-pub row_behind : (n at : ℕ) (area : List ℕ) → at < length area → row_at (n + 1) at area ≡ get_or area at 0 ∷ row_at n (at + 1) area
-row_behind n at area h =
-    let e : n + 1 ≡ suc n = omega arith in
-    let f : at + 1 ≡ suc at = omega arith in
-    rw (e, f) (ap (take (suc n)) (drop-cons area at 0 h))

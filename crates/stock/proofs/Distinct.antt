@@ -7,11 +7,11 @@ use Rattle.stock.specs.Sizes.{listed, Distinct}
 -- what is not listed stands at no place
 pub unlisted_at : (xs : List ℕ) (y j : ℕ) → listed xs y ≡ false → j < length xs → get_or xs j 0 ≡ y → ⊥
 unlisted_at [] y j e h z = omega arith
-unlisted_at (x ∷ xs) y zero e h z = absurd (let t : cond (eqb x y) true (listed xs y) ≡ true = rw (eq-eqb x y z) in let k : ◌≡◌ {A = ℕ} 0 1 = cc in omega arith)
+unlisted_at (x ∷ xs) y zero e h z = let t : cond (eqb x y) true (listed xs y) ≡ true = rw (eq-eqb x y z) in cc
 unlisted_at (x ∷ xs) y (suc j) e h z = unlisted_at xs y j (by_test (eqb x y) e) (omega arith) z
   where
     by_test : (b : Bool) → cond b true (listed xs y) ≡ false → listed xs y ≡ false
-    by_test true f = absurd (let k : ◌≡◌ {A = ℕ} 0 1 = cc in omega arith)
+    by_test true f = cc
     by_test false f = f
 
 pub distinct_push : (xs : List ℕ) (y : ℕ) → Distinct xs → listed xs y ≡ false → Distinct (xs ++ y ∷ [])

@@ -18,12 +18,12 @@ behind p ps h = λ j k l e. h (suc j) (suc k) (omega arith) e
 any_empty : (ps : List (Option ℕ)) (y : ℕ) → ((k : ℕ) → get_or ps k None ≡ None) → list_any (λ p. option_eq nat_eq p (Some y)) ps ≡ false
 any_empty [] y h = refl
 any_empty (None ∷ ps) y h = any_empty ps y (λ k. h (suc k))
-any_empty (Some x ∷ ps) y h = absurd (let z = h 0 in let k : ◌≡◌ {A = ℕ} 0 1 = cc in omega arith)
+any_empty (Some x ∷ ps) y h = let z = h 0 in cc
 
 numbers_empty : (ps : List (Option ℕ)) → ((k : ℕ) → get_or ps k None ≡ None) → numbers ps ≡ []
 numbers_empty [] h = refl
 numbers_empty (None ∷ ps) h = refl
-numbers_empty (Some x ∷ ps) h = absurd (let z = h 0 in let k : ◌≡◌ {A = ℕ} 0 1 = cc in omega arith)
+numbers_empty (Some x ∷ ps) h = let z = h 0 in cc
 
 pub any_listed : (ps : List (Option ℕ)) (y : ℕ) → Packed ps → list_any (λ p. option_eq nat_eq p (Some y)) ps ≡ listed (numbers ps) y
 any_listed [] y h = refl
@@ -37,10 +37,10 @@ numbers_long (Some x ∷ ps) = let e = numbers_long ps in omega arith
 
 of_position : (b : Bool) (n i : ℕ) → cond b (Some n) None ≡ Some i → n ≡ i
 of_position true n i e = cc
-of_position false n i e = absurd (let k : ◌≡◌ {A = ℕ} 0 1 = cc in omega arith)
+of_position false n i e = cc
 
 of_no_position : (b : Bool) (n : ℕ) → cond b (Some n) None ≡ None → b ≡ false
-of_no_position true n e = absurd (let k : ◌≡◌ {A = ℕ} 0 1 = cc in omega arith)
+of_no_position true n e = cc
 of_no_position false n e = refl
 
 pub room : (ps : List (Option ℕ)) (i : ℕ) → position is_none ps ≡ Some i → length (numbers ps) < length ps
@@ -51,13 +51,13 @@ no_room ps e = let t = ltb-false _ _ (of_no_position _ _ e) in let l = numbers_l
 
 is_empty : (p : Option ℕ) → is_none p ≡ true → p ≡ None
 is_empty None e = refl
-is_empty (Some x) e = absurd (let k : ◌≡◌ {A = ℕ} 0 1 = cc in omega arith)
+is_empty (Some x) e = cc
 
 numbers_set_at : (ps : List (Option ℕ)) (i y : ℕ) → Packed ps → i < length ps → get_or ps i None ≡ None → ((k : ℕ) → k < i → is_none (get_or ps k None) ≡ false) → numbers (set ps i (Some y)) ≡ numbers ps ++ y ∷ []
 numbers_set_at [] i y h lt e before = absurd (omega arith)
 numbers_set_at (None ∷ ps) zero y h lt e before = ap (λ z. y ∷ z) (numbers_empty ps (λ k. h 0 (suc k) (omega arith) refl))
-numbers_set_at (Some x ∷ ps) zero y h lt e before = absurd (let k : ◌≡◌ {A = ℕ} 0 1 = cc in omega arith)
-numbers_set_at (None ∷ ps) (suc i) y h lt e before = absurd (let z = before 0 (omega arith) in let k : ◌≡◌ {A = ℕ} 0 1 = cc in omega arith)
+numbers_set_at (Some x ∷ ps) zero y h lt e before = cc
+numbers_set_at (None ∷ ps) (suc i) y h lt e before = let z = before 0 (omega arith) in cc
 numbers_set_at (Some x ∷ ps) (suc i) y h lt e before = ap (λ z. x ∷ z) (numbers_set_at ps i y (behind (Some x) ps h) (omega arith) e (λ k l. before (suc k) (omega arith)))
 
 -- place i is the first empty one
@@ -71,11 +71,11 @@ module _ (ps : List (Option ℕ)) (i y : ℕ) (h : Packed ps) (at : position is_
   pub packed_set : Packed (set ps i (Some y))
   packed_set j k l e =
       ⊎_elim
-      (λ (s : j ≡ i). absurd (let z = get_or-set_same ps i (Some y) None lt in let w = ap (λ q. get_or (set ps i (Some y)) q None) s in let k : ◌≡◌ {A = ℕ} 0 1 = cc in omega arith))
+      (λ (s : j ≡ i). let z = get_or-set_same ps i (Some y) None lt in let w = ap (λ q. get_or (set ps i (Some y)) q None) s in cc)
       (λ (nj : j ≢ i).
       let ej : get_or ps j None ≡ None = sym (get_or-set_other ps i j (Some y) None nj) ∙ e in
       ⊎_elim
-      (λ (s : k ≡ i). absurd (let z = before j (omega arith) in let w = ap is_none ej in let k : ◌≡◌ {A = ℕ} 0 1 = cc in omega arith))
+      (λ (s : k ≡ i). let z = before j (omega arith) in let w = ap is_none ej in cc)
       (λ (nk : k ≢ i). get_or-set_other ps i k (Some y) None nk ∙ h j k l ej)
       (cases_eq k i))
       (cases_eq j i)

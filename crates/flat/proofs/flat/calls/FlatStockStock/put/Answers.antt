@@ -1,4 +1,4 @@
-use Rattle.std.proofs.Common.{◌≡◌, ℕ, ◌+◌, ◌-◌, ◌*◌, ◌<◌, ◌≤◌, List, ◌∷◌, length, set, false, None, vec_items, sym, ap, ◌∙◌, arith, eqb-true}
+use Rattle.std.proofs.Common.{◌≡◌, ℕ, ◌+◌, ◌-◌, ◌*◌, ◌<◌, ◌≤◌, List, ◌∷◌, length, set, false, None, vec_items, sym, ap, ◌∙◌, arith}
 use borrow.Rule.Slice.PartMut.{put_mid}
 use Rattle.std.proofs.lemmas.List.{with_items_is}
 use Rattle.stock.specs.Areas.{written}
@@ -7,7 +7,7 @@ use Rattle.stock.specs.Sizes.{listed}
 use Rattle.stock.specs.Stocks.{put_fault}
 use Rattle.stock.proofs.Areas.{written_mid, written_behind}
 use Rattle.stock.proofs.Rows.{slots_long}
-use Rattle.stock.proofs.Allowed.{ok_answers, through, put_allowed}
+use Rattle.stock.proofs.Allowed.{through, put}
 use Rattle.flat.specs.Flats.{flat_count, flat_put}
 use Rattle.flat.specs.FlatHeld.{flat_over, flat_held}
 use Rattle.flat.specs.FlatArea.{unlisted, length_put, slots_put}
@@ -16,8 +16,7 @@ use Rattle.flat.proofs.flat.calls.FlatStockStock.put.Goals as goal
 pub place-place-requires : goal.place-place-requires
 place-place-requires c =
     let s = c.args.self.now in
-    let o = (ok_answers _ _ _ c.in_ok-allows_put.ensures).0 in
-    let u = put_allowed (flat_held s) c.args.slot c.condition.result _ c.condition.ensures o in
+    let u = put (flat_held s) c.args.slot _ c.condition.ensures _ _ c.get.ensures _ _ c.in_ok-allows_put.ensures in
     rw s.count (rw slots_long at u.0.below)
 
 filled_area : (n i at k : ℕ) (bs row was xs : List ℕ) → at ≡ i * (n + 1) → row ≡ 1 ∷ bs → k ≡ length (1 ∷ bs) → was ≡ xs → at + 1 + length bs ≤ length xs → put_mid at k was row ≡ flat_put n i bs xs
@@ -30,11 +29,10 @@ returns c =
     let i : ℕ = c.args.slot in
     let bs = c.args.bytes.now in
     let xs : List ℕ = vec_items s.area in
-    let o = (ok_answers _ _ _ c.in_ok-allows_put.ensures).0 in
-    let u = put_allowed (flat_held s) i c.condition.result _ c.condition.ensures o in
+    let u = put (flat_held s) i _ c.condition.ensures _ _ c.get.ensures _ _ c.in_ok-allows_put.ensures in
     let h : i < flat_count n (length xs) = rw slots_long at u.0.below in
-    let e : put_fault (flat_held s) i (length bs) ≡ None = rw (c.condition.ensures, c.get.ensures) at o in
-    let l : length bs ≡ n = eqb-true _ _ u.1 ∙ c.get.ensures in
+    let l : length bs ≡ n = u.1 in
+    let e : put_fault (flat_held s) i (length bs) ≡ None = u.2 in
     let nb : listed (bad_list s.bad) i ≡ false = unlisted _ _ _ _ i h u.0.good in
     let d = c.deref_mut.ensures in
     let f : c.place-place.result.start + 1 + length bs ≤ length xs = omega (arith, c.place-place.ensures.end, c.place-place.ensures.within) in

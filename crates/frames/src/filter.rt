@@ -19,12 +19,33 @@ use stock::size::FrameSize;
 use stock::stock::Stock;
 use suite::short::ShortSuite;
 
-// What the program prints: the listing, how many lines were loaded, and the number of the refusal or 0.
+// What a text comes to: the listing of the small reel after the loading, and what the loading answered.
 #[derive(Drop)]
 pub struct Outcome {
     pub listing: Vec<u8>,
-    pub lines: u64,
-    pub refusal: u8,
+    pub loaded: Result<u64, LineFault>,
+}
+
+impl Outcome {
+    // How many lines were loaded.
+    pub(crate) fn lines(&self) -> u64
+        ensures { result ≡ lines_loaded self.now.loaded }
+    {
+        match self.loaded {
+            Ok(lines) => lines,
+            Err(fault) => fault.line.saturating_sub(1),
+        }
+    }
+
+    // The number of the refusal, or 0 where nothing was refused.
+    pub(crate) fn refusal(&self) -> u8
+        ensures { result ≡ refusal_number self.now.loaded }
+    {
+        match self.loaded {
+            Ok(_) => 0,
+            Err(fault) => fault.report().number,
+        }
+    }
 }
 
 // A locked, fresh flat reel of the short suite, with frames of 16 bytes over an area of 68: four slots.
@@ -36,17 +57,6 @@ fn small_reel(area: Vec<u8>) -> LockedReel<FlatStock, ShortSuite>
         unreachable()
     };
     LockedReel::new(FlatStock::fresh(area, size, BadSlots::none()), ShortSuite)
-}
-
-// How many lines were loaded, and the number of the refusal or 0.
-fn counted(answer: Result<u64, LineFault>) -> (u64, u8)
-    ensures lines { result.0 ≡ lines_loaded answer }
-    ensures refusal { result.1 ≡ refusal_number answer }
-{
-    match answer {
-        Ok(lines) => (lines, 0),
-        Err(fault) => (fault.line.saturating_sub(1), fault.report().number),
-    }
 }
 
 // The listing of a stock, in an area that has room for a line of every slot.
@@ -68,11 +78,7 @@ pub fn filter(heap: Global, text: &[u8]) -> Result<Outcome, AllocError>
     let area = vec![in heap; 0u8; 68]?;
     let room = vec![in heap; 0u8; 168]?;
     let mut reel = small_reel(area);
-    let (lines, refusal) = counted(load_listing(&mut reel, text));
+    let loaded = load_listing(&mut reel, text);
     let listing = listed(reel.stock(), room);
-    Ok(Outcome {
-        listing,
-        lines,
-        refusal,
-    })
+    Ok(Outcome { listing, loaded })
 }

@@ -1,7 +1,7 @@
 // Reads a listing from standard input, loads it into a small reel, and prints the reel's listing and how the loading ended.
 #![tactic(auto)]
 
-ghost use Rattle.std.specs.Prelude.{◌≤◌, length, IfOk};
+ghost use Rattle.std.specs.Prelude.{◌≤◌, IfOk, vec_len};
 
 use filter::filter;
 use std::io;
@@ -14,29 +14,21 @@ mod tests;
 // At most so many bytes are read.
 const MOST: usize = 4096;
 
-// Reads the input, or as much of it as the row takes.
-fn read_input(rt: &HostRuntime, row: &mut [u8]) -> io::Result<usize>
-    ensures { IfOk result (λ n. n ≤ length row.old) }
+// The input, or its first bytes where it has more than are read.
+fn read_input(rt: &HostRuntime) -> io::Result<Vec<u8>>
+    ensures { IfOk result (λ text. vec_len text ≤ 4096) }
 {
-    let end = row.len();
-    let mut stdin = rt.stdin();
-    let mut got = 0;
-    while got < end {
-        let more = stdin.read(&mut row[got..end])?;
-        if more == 0 {
-            break;
-        }
-        got += more;
-    }
-    Ok(got)
+    let mut text = Vec::new(rt.alloc());
+    rt.stdin().take(MOST as u64).read_to_end(&mut text)?;
+    text.truncate(MOST);
+    Ok(text)
 }
 
 fn run(rt: &HostRuntime) -> anyhow::Result<()> {
-    let mut text = [0u8; MOST];
-    let end = read_input(rt, &mut text)?;
-    let outcome = filter(rt.alloc(), &text[0..end])?;
-    let lines = outcome.lines;
-    let refusal = outcome.refusal;
+    let text = read_input(rt)?;
+    let outcome = filter(rt.alloc(), text.as_slice())?;
+    let lines = outcome.lines();
+    let refusal = outcome.refusal();
     rt.stdout().write_all(outcome.listing.as_slice())?;
     println!(rt; "{lines} {refusal}")?;
     Ok(())

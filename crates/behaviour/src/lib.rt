@@ -4,6 +4,8 @@
 #[cfg(test)]
 mod listings;
 #[cfg(test)]
+mod made;
+#[cfg(test)]
 mod reels;
 #[cfg(test)]
 mod stocks;

@@ -1,3 +1,2 @@
 pub mod Layers
 pub mod Faults
-pub mod Numbers

@@ -1,7 +1,6 @@
 // The refusals of keys.
 ghost use Rattle.fault.specs.declared.layer.Layer.TheVariants.{Parameters};
 ghost use Rattle.fault.specs.Faults.{key_report};
-ghost use Rattle.fault.specs.Numbers.{key_numbered};
 ghost use Rattle.std.proofs.Common.{rules};
 
 use crate::layer::Layer;
@@ -26,7 +25,7 @@ impl Fault for KeyFault {
 
     ghost of_its_layer = { Prim.search rules };
 
-    ghost numbered = { key_numbered };
+    ghost numbered = { Prim.search rules };
 
     fn report(&self) -> Report {
         Report {

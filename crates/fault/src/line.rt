@@ -3,7 +3,6 @@ ghost use Rattle.std.specs.Prelude.{◌≡◌};
 ghost use Rattle.fault.specs.declared.layer.Layer.TheVariants.{Lines};
 ghost use Rattle.fault.specs.declared.line.LineCause.TheVariants.{Reel};
 ghost use Rattle.fault.specs.Faults.{line_report};
-ghost use Rattle.fault.specs.Numbers.{line_numbered};
 ghost use Rattle.std.proofs.Common.{rules};
 
 use crate::layer::Layer;
@@ -50,7 +49,7 @@ impl Fault for LineFault {
 
     ghost of_its_layer = { Prim.search rules };
 
-    ghost numbered = { λ e. line_numbered e.cause };
+    ghost numbered = { Prim.search rules };
 
     fn report(&self) -> Report {
         let number = match self.cause {

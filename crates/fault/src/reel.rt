@@ -2,7 +2,6 @@
 ghost use Rattle.std.specs.Prelude.{◌≡◌};
 ghost use Rattle.fault.specs.declared.layer.Layer.TheVariants.{Reel};
 ghost use Rattle.fault.specs.Faults.{passed_up, reel_report};
-ghost use Rattle.fault.specs.Numbers.{reel_numbered};
 ghost use Rattle.std.proofs.Common.{rules};
 
 use crate::layer::Layer;
@@ -51,7 +50,7 @@ impl Fault for ReelFault {
 
     ghost of_its_layer = { Prim.search rules };
 
-    ghost numbered = { λ e. reel_numbered e.cause };
+    ghost numbered = { Prim.search rules };
 
     fn report(&self) -> Report {
         let number = match self.cause {

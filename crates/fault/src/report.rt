@@ -1,10 +1,10 @@
 // What every refusal tells.
-ghost use Rattle.std.specs.Prelude.{◌≡◌, ◌↔◌, MatchResult, IsOk};
+ghost use Rattle.std.specs.Prelude.{◌≡◌, ◌≤◌, ◌↔◌, MatchResult, IsOk};
 ghost use Rattle.fault.specs.declared.layer.Layer.{Layer};
 ghost use Rattle.fault.specs.declared.report.Report.{Report};
-ghost use Rattle.fault.specs.Numbers.{IsRefusalNumber};
 
 use crate::layer::Layer;
+use std::error::Error;
 use std::fmt;
 
 // The number of a refusal, its layer, and its place there: a slot, an address, a line counted from 1, or 0 among parameters.
@@ -25,8 +25,8 @@ impl fmt::Display for Report {
     }
 }
 
-// What the faults of all layers have in common.
-pub trait Fault {
+// What the faults of all layers have in common: each prints itself for an operator, and tells a report.
+pub trait Fault: Error {
     // what a fault tells
     ghost tells: { Self → Report };
 
@@ -38,7 +38,8 @@ pub trait Fault {
 
     ghost of_its_layer: { (e : Self) → (tells e).layer ≡ layer };
 
-    ghost numbered: { (e : Self) → IsRefusalNumber (tells e).number };
+    // No refusal has the number 0, so that 0 can stand for none.
+    ghost numbered: { (e : Self) → (1 ≤ (tells e).number) × ((tells e).number ≤ 15) };
 }
 
 // The number of a call's refusal, or 0 where it was not refused.

@@ -1,7 +1,6 @@
 // The refusals of what a stock is made from.
 ghost use Rattle.fault.specs.declared.layer.Layer.TheVariants.{Parameters};
 ghost use Rattle.fault.specs.Faults.{shape_report};
-ghost use Rattle.fault.specs.Numbers.{shape_numbered};
 ghost use Rattle.std.proofs.Common.{rules};
 
 use crate::layer::Layer;
@@ -24,7 +23,7 @@ impl Fault for ShapeFault {
 
     ghost of_its_layer = { Prim.search rules };
 
-    ghost numbered = { shape_numbered };
+    ghost numbered = { Prim.search rules };
 
     fn report(&self) -> Report {
         Report {

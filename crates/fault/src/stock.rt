@@ -1,7 +1,6 @@
 // The refusals of a stock.
 ghost use Rattle.fault.specs.declared.layer.Layer.TheVariants.{Stock};
 ghost use Rattle.fault.specs.Faults.{stock_report};
-ghost use Rattle.fault.specs.Numbers.{stock_numbered};
 ghost use Rattle.std.proofs.Common.{rules};
 
 use crate::layer::Layer;
@@ -36,7 +35,7 @@ impl Fault for StockFault {
 
     ghost of_its_layer = { Prim.search rules };
 
-    ghost numbered = { λ e. stock_numbered e.cause };
+    ghost numbered = { Prim.search rules };
 
     fn report(&self) -> Report {
         Report {

@@ -9,11 +9,11 @@ use std::alloc::Global;
 use std::test::Fail;
 use stock::condition::Condition;
 use stock::stock::Stock;
-use suite::short::ShortSuite;
+use suites::short::ShortSuite;
 
 // A reel of four slots of 16 bytes, slot 2 bad.
 fn small(heap: Global) -> Result<LockedReel<FlatStock, ShortSuite>, Fail> {
-    fresh_reel(heap, 16, 68, ShortSuite)
+    fresh_reel(heap, 16, 68, ShortSuite::new())
 }
 
 // The same with frames at 0 and 3.

@@ -5,8 +5,8 @@ use fault::reel::ReelCause;
 use fault::report::{Fault, refusal_number};
 use std::alloc::Global;
 use std::test::Fail;
-use suite::long::LongSuite;
-use suite::short::ShortSuite;
+use suites::long::LongSuite;
+use suites::short::ShortSuite;
 use suite::suite::Suite;
 
 // The number with which a fresh reel of frames of so many bytes refuses to erase address 0, or 0.
@@ -17,7 +17,7 @@ fn erase_number<Su: Suite + Drop>(heap: Global, frame: usize, suite: Su) -> Resu
 
 #[test]
 fn frames_go_in_and_out(rt: HostRuntime) -> Result<(), Fail> {
-    let mut reel = fresh_reel(rt.alloc(), 16, 68, ShortSuite)?;
+    let mut reel = fresh_reel(rt.alloc(), 16, 68, ShortSuite::new())?;
     let mut out = [9u8; 16];
     reel.load(3, &[5u8; 16])?;
     reel.take(3, &mut out)?;
@@ -32,7 +32,7 @@ fn frames_are_2_to_513_whole_blocks(rt: HostRuntime) -> Result<(), Fail> {
     // 16 bytes are two short blocks, and 4,104 are 513
     for (frame, number) in [(16, 0), (4104, 0), (4112, 5)] {
         assert_eq!(rt;
-            erase_number(rt.alloc(), frame, ShortSuite)?,
+            erase_number(rt.alloc(), frame, ShortSuite::new())?,
             number,
             "{frame} bytes"
         );
@@ -40,7 +40,7 @@ fn frames_are_2_to_513_whole_blocks(rt: HostRuntime) -> Result<(), Fail> {
     // 16 bytes are one long block, 40 are no whole number of them, and 8,208 are 513
     for (frame, number) in [(16, 5), (40, 5), (8208, 0)] {
         assert_eq!(rt;
-            erase_number(rt.alloc(), frame, LongSuite)?,
+            erase_number(rt.alloc(), frame, LongSuite::new())?,
             number,
             "{frame} bytes"
         );
@@ -50,7 +50,7 @@ fn frames_are_2_to_513_whole_blocks(rt: HostRuntime) -> Result<(), Fail> {
 
 #[test]
 fn a_reel_keeps_the_stocks_fault_whole(rt: HostRuntime) -> Result<(), Fail> {
-    let mut reel = fresh_reel(rt.alloc(), 16, 68, ShortSuite)?;
+    let mut reel = fresh_reel(rt.alloc(), 16, 68, ShortSuite::new())?;
     let Err(fault) = reel.erase(2) else {
         return Err(Fail::new("a bad slot was erased"));
     };

@@ -8,7 +8,7 @@ ghost use Rattle.frames.specs.Refusals.{refusal_number};
 ghost use Rattle.frames.specs.Filters.{blank_book, Filtered};
 
 use fault::line::LineFault;
-use fault::report::Fault;
+use fault::report;
 use flat::flat::FlatStock;
 use listing::list::list_frames;
 use listing::load::load_listing;
@@ -17,7 +17,7 @@ use std::alloc::{AllocError, Global};
 use stock::bad::BadSlots;
 use stock::size::FrameSize;
 use stock::stock::Stock;
-use suite::short::ShortSuite;
+use suites::short::ShortSuite;
 
 // What a text comes to: the listing of the small reel after the loading, and what the loading answered.
 #[derive(Drop)]
@@ -41,10 +41,7 @@ impl Outcome {
     pub(crate) fn refusal(&self) -> u8
         ensures { result ≡ refusal_number self.now.loaded }
     {
-        match self.loaded {
-            Ok(_) => 0,
-            Err(fault) => fault.report().number,
-        }
+        report::refusal_number(&self.loaded)
     }
 }
 
@@ -56,7 +53,10 @@ fn small_reel(area: Vec<u8>) -> LockedReel<FlatStock, ShortSuite>
     let Ok(size) = FrameSize::new(16) else {
         unreachable()
     };
-    LockedReel::new(FlatStock::fresh(area, size, BadSlots::none()), ShortSuite)
+    LockedReel::new(
+        FlatStock::fresh(area, size, BadSlots::none()),
+        ShortSuite::new(),
+    )
 }
 
 // The listing of a stock, in an area that has room for a line of every slot.

@@ -1,5 +1,5 @@
 -- The bytes that accepted keys tell are accepted again. Assumes nothing.
-use Rattle.std.proofs.Common.{◌≡◌, ℕ, ◌≤◌, min, List, length, take, Some, None, Ok, Err, Option, sym, ap, ◌∙◌, ap₂, ⊎_elim, arith}
+use Rattle.std.proofs.Common.{◌≡◌, ℕ, List, length, Some, None, Ok, Err, Option, ◌∙◌, ap₂, arith}
 use Rattle.std.proofs.lemmas.Bool.{eq-eqb}
 use Rattle.cipher.proofs.Kept.{kept_whole}
 use Rattle.stock.specs.Refusals.{Answers}

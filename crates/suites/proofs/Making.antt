@@ -1,13 +1,10 @@
 -- What is known of a hash key against which nothing stands. Assumes nothing.
-use Rattle.std.proofs.Common.{◌≡◌, ℕ, Bool, true, false, cond, eqb, List, length, Some, None, Ok, Err, sym, refl, ap, ◌∙◌, subst, arith}
+use Rattle.std.proofs.Common.{◌≡◌, ℕ, Bool, true, false, cond, eqb, List, length, Some, None, sym, refl, ap, ◌∙◌, subst, arith}
 use Rattle.std.proofs.lemmas.Bool.{eqb-true}
 use Rattle.arith.specs.Rows.{Bytes, fitted, zeros}
 use Rattle.arith.proofs.Places.{fitted_same}
-use Rattle.stock.specs.Refusals.{Answers}
-use Rattle.fault.specs.declared.key.KeyFault.{KeyFault}
 use Rattle.fault.specs.declared.key.KeyFault.TheVariants.{HashKeyLength, ZeroHashKey}
-use Rattle.ciphersuite.specs.Meaning.{Meaning}
-use Rattle.ciphersuite.specs.Keys.{hash_fault, key_fault, CameFrom}
+use Rattle.ciphersuite.specs.Keys.{hash_fault}
 
 -- a hash key of n bytes against which nothing stands, as it is kept
 pub record KeptHash (n : ℕ) (hk hash : List ℕ) : Type 0 where

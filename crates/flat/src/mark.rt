@@ -1,5 +1,5 @@
 // One slot of a flat area: a mark byte and the bytes of a frame.
-ghost use Rattle.std.specs.Prelude.{◌≡◌, ℕ, ◌+◌, ◌*◌, ◌≤◌, ◌∷◌, length};
+ghost use Rattle.std.specs.Prelude.{◌≡◌, ℕ, ◌+◌, ◌*◌, ◌<◌, ◌≤◌, ◌∷◌, length, slice_set};
 ghost use Rattle.flat.specs.Flats.{flat_condition, Unmarked};
 
 use stock::condition::Condition;
@@ -9,7 +9,7 @@ use stock::size::FrameSize;
 const FILLED: u8 = 1;
 
 // The mark that a blank slot is given.
-pub(crate) const BLANK: u8 = 0;
+const BLANK: u8 = 0;
 
 // The condition of a slot by its mark, and by whether it is listed as bad.
 pub(crate) fn condition_of(listed: bool, mark: u8) -> Condition
@@ -32,6 +32,14 @@ pub(crate) fn fill_slot(slot: &mut [u8], bytes: &[u8])
     };
     *mark = FILLED;
     frame.copy_from_slice(bytes);
+}
+
+// Clears a slot.
+pub(crate) fn clear_slot(slot: &mut [u8])
+    requires { 0 < length slot.old }
+    ensures { slot.new ≡ slice_set slot.old 0 0 }
+{
+    slot[0] = BLANK;
 }
 
 // Sets the marks of the first `slots` slots to 0, and alters nothing else.

@@ -9,7 +9,7 @@ ghost use Rattle.flat.specs.FlatArea.{slots_framed, slots_few};
 ghost use Rattle.std.proofs.Common.{rules};
 
 use crate::flat::FlatStock;
-use crate::mark::{BLANK, clear_marks, condition_of, fill_slot};
+use crate::mark::{clear_marks, clear_slot, condition_of, fill_slot};
 use fault::stock::StockFault;
 use std::ops::Range;
 use stock::bad::BadSlots;
@@ -133,8 +133,8 @@ impl Stock for FlatStock {
         ensures area { self.new.area.items ≡ area_after_clear self.old slot }
     {
         self.condition(slot).allows_clear(slot)?;
-        let mark = self.place(slot).start;
-        self.area[mark] = BLANK;
+        let place = self.place(slot);
+        clear_slot(&mut self.area[place]);
         Ok(())
     }
 

@@ -1,7 +1,7 @@
 // Listing a stock.
-ghost use Rattle.std.specs.Prelude.{◌≡◌, ℕ, ◌+◌, ◌-◌, ◌*◌, ◌<◌, ◌≤◌, length, IfOk, OnOk, slice_index};
+ghost use Rattle.std.specs.Prelude.{◌≡◌, ℕ, ◌+◌, ◌-◌, ◌*◌, ◌<◌, ◌≤◌, length, IfOk, OnOk, OnErr, slice_index};
 ghost use Rattle.stock.specs.Areas.{written};
-ghost use Rattle.stock.specs.Refusals.{answered, unless};
+ghost use Rattle.stock.specs.Refusals.{answered};
 ghost use Rattle.listing.specs.Listings.{lines_of, listing_in, AllBytes, WholeLines, RoomForAll, listing_answer, listing_area, no_room};
 ghost use Rattle.listing.specs.Lines.{line_for};
 
@@ -26,7 +26,8 @@ impl Listing<'_> {
         requires short { length frame.now ≤ 8208 }
         ensures answer { result ≡ answered (no_room self.old.lines (10 + 2 * length frame.now) (length self.old.area.now - self.old.bytes)) tt }
         ensures same_area { self.new.area.ghost_name ≡ self.old.area.ghost_name }
-        ensures area { self.new.area.now ≡ unless (no_room self.old.lines (10 + 2 * length frame.now) (length self.old.area.now - self.old.bytes)) (written self.old.bytes (line_for address frame.now) self.old.area.now) self.old.area.now }
+        ensures written { OnOk result (self.new.area.now ≡ written self.old.bytes (line_for address frame.now) self.old.area.now) }
+        ensures unaltered { OnErr result (self.new.area.now ≡ self.old.area.now) }
         ensures bytes { OnOk result (self.new.bytes ≡ self.old.bytes + (10 + 2 * length frame.now)) }
         ensures lines { OnOk result (self.new.lines ≡ self.old.lines + 1) }
         ensures fit { OnOk result ((k : ℕ) → slice_index frame.now k < 256) }

@@ -28,7 +28,7 @@ loop-slot-preserved g c =
           let line : List ℕ = line_for i (bytes_in (slot_at h i)) in
           let ll : length line ≡ 10 + 2 * length c.get.new.area = length_line i (bytes_in (slot_at h i)) ∙ ap (λ z. 10 + 2 * length z) (sym f.1) in
           let ea : w.add.new.self.area.now ≡ written c.loop-slot.listing.bytes line c.loop-slot.listing.area.now =
-          w.in_ok-add.ensures.area ∙ rw o.0 (ap (λ z. written c.loop-slot.listing.bytes (line_for i z) c.loop-slot.listing.area.now) f.1) in
+          w.in_ok-add.ensures.written ∙ ap (λ z. written c.loop-slot.listing.bytes (line_for i z) c.loop-slot.listing.area.now) f.1 in
           let ee = w.in_ok-add.ensures.bytes ∙ ap (λ z. c.loop-slot.listing.bytes + z) (sym ll) in
           let fits : length line ≤ length c.args.area.now - c.loop-slot.listing.bytes = (let r = room_tells _ _ _ o.0 in let l = so.long in omega arith) in
           rw w.listing-is (
@@ -60,7 +60,7 @@ returns-in_err-add g c =
     let ll : length (line_for i (bytes_in (slot_at h i))) ≡ 10 + 2 * length c.get.new.area = length_line i (bytes_in (slot_at h i)) ∙ ap (λ z. 10 + 2 * length z) (sym f.1) in
     let e = sofar_full _ _ _ _ _ _ _ so (let r = t.0 in let l = so.long in omega arith) in
     let p = err_from_is_err_and c.from_residual.result c.from_residual.ensures.1 in
-    let a : c.add.new.self.area.now ≡ listing_area h c.args.area.now = c.in_err-add.ensures.area ∙ rw (n, e) (front_of _ _ _ _ _ _ so) in
+    let a : c.add.new.self.area.now ≡ listing_area h c.args.area.now = c.in_err-add.ensures.unaltered ∙ rw e (front_of _ _ _ _ _ _ so) in
     record {
       answer = rw e (p.1 ∙ ap Err (p.2 ∙ t.1));
       area = search rules;

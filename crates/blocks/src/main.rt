@@ -2,10 +2,12 @@
 // its argument it makes so many products instead, for timing.
 #![tactic(auto)]
 
-use ciphersuite::keys::make_again;
 use ciphersuite::cipher_suite::CipherSuite;
+use ciphersuite::keys::make_again;
+use ciphersuite::tally::Tally;
 use std::alloc::{AllocError, Global};
 use std::env;
+use std::fmt::Write;
 use suites::long::LongSuite;
 use suites::short::ShortSuite;
 
@@ -19,8 +21,7 @@ const KEY: [u8; 32] = [
 fn hex(heap: Global, bytes: &[u8]) -> Result<String, AllocError> {
     let mut text = String::new(heap);
     for b in bytes {
-        let digits = format!(in heap; "{b:02X}")?;
-        text.push_str(digits.as_str())?;
+        write!(text, "{b:02X}")?;
     }
     Ok(text)
 }
@@ -69,7 +70,7 @@ fn show_blocks<S: CipherSuite>(
     Ok(())
 }
 
-// Tells all of one suite.
+// Tells all of one suite but how often it was asked.
 fn show<S: CipherSuite>(rt: &HostRuntime, suite: &mut S) -> anyhow::Result<()> {
     let len = S::L;
     println!(rt; "  blocks of {len} bytes")?;
@@ -82,6 +83,15 @@ fn show<S: CipherSuite>(rt: &HostRuntime, suite: &mut S) -> anyhow::Result<()> {
         Ok(keys) => show_blocks(rt, suite, &keys)?,
         Err(fault) => println!(rt; "  {fault}")?,
     }
+    Ok(())
+}
+
+// Tells how often a suite was asked.
+fn show_asked(rt: &HostRuntime, asked: Tally) -> anyhow::Result<()> {
+    println!(rt;
+        "  it was asked for {} product and {} square",
+        asked.products, asked.squarings
+    )?;
     Ok(())
 }
 
@@ -111,22 +121,14 @@ fn run(rt: &HostRuntime) -> anyhow::Result<()> {
         println!(rt; "after {count} products: {row}")?;
         return Ok(());
     }
-    let mut long = LongSuite::new();
     println!(rt; "The long suite")?;
+    let mut long = LongSuite::new();
     show(rt, &mut long)?;
-    let asked = long.tally();
-    println!(rt;
-        "  it was asked for {} product and {} square",
-        asked.products, asked.squarings
-    )?;
-    let mut short = ShortSuite::new();
+    show_asked(rt, long.tally())?;
     println!(rt; "The short suite")?;
+    let mut short = ShortSuite::new();
     show(rt, &mut short)?;
-    let asked = short.tally();
-    println!(rt;
-        "  it was asked for {} product and {} square",
-        asked.products, asked.squarings
-    )?;
+    show_asked(rt, short.tally())?;
     Ok(())
 }
 

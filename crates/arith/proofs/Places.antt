@@ -1,17 +1,13 @@
 -- Rows that a function of the place gives, and loops that fill them. Assumes nothing.
-use Rattle.std.proofs.Common.{◌≡◌, ℕ, ◌+◌, ◌-◌, ◌<◌, ◌≤◌, List, ◌++◌, length, get_or, take, replicate, set, sym, ap, ◌∙◌, ⊎_elim, arith, lit<, length-append, length-set, length-take}
+use Rattle.std.proofs.Common.{◌≡◌, ℕ, ◌+◌, ◌-◌, ◌<◌, ◌≤◌, List, ◌++◌, length, get_or, take, replicate, sym, ap, ◌∙◌, ⊎_elim, arith, lit<, length-append, length-take}
 use Rattle.std.proofs.lemmas.List.{ext_get_or, get_or_append_left, get_or-append_right, get_or-replicate, get_or-take, get_or_past, length-replicate}
 use Rattle.std.proofs.lemmas.Bool.{cases_lt}
-use Rattle.std.proofs.lemmas.List.Edits.{fill_by_more}
 use Rattle.std.proofs.lemmas.List.FromFn.{fill_by_all, length-map-range_with_len, get_or-map-range_with_len}
 use Rattle.arith.specs.Rows.{Row, by_place, fitted}
 
 -- a row of n numbers, of which those below i are given by f
 abbrev pub Filled : ℕ → (ℕ → ℕ) → ℕ → List ℕ → Type 0
 Filled n f i xs = (length xs ≡ n) × ((k : ℕ) → k < i → get_or xs k 0 ≡ f k)
-
-pub filled_more : (n : ℕ) (f : ℕ → ℕ) (i : ℕ) (xs : List ℕ) (v : ℕ) → i < n → v ≡ f i → Filled n f i xs → Filled n f (i + 1) (set xs i v)
-filled_more n f i xs v h e inv = (simp length-set inv.0, rw e (fill_by_more f xs i 0 (omega arith) inv.1))
 
 pub filled_all : (n : ℕ) (f : ℕ → ℕ) (i : ℕ) (xs : List ℕ) → n ≤ i → Filled n f i xs → xs ≡ by_place n f
 filled_all n f i xs h inv = fill_by_all f xs n 0 inv.0 (λ k l. inv.1 k (omega arith))

@@ -3,6 +3,7 @@ use fault::report::Fault;
 use flat::flat::FlatStock;
 use reel::reel::LockedReel;
 use std::alloc::Global;
+use std::error::Error;
 use std::test::Fail;
 use stock::bad::BadSlots;
 use stock::size::FrameSize;
@@ -33,7 +34,7 @@ pub fn fresh_reel<Su: Suite + Drop>(
 }
 
 // What an operator is told of a refused call.
-pub fn told<T: Drop, F: Fault>(heap: Global, answer: Result<T, F>) -> Result<String, Fail> {
+pub fn told<T: Drop, F: Fault + Error>(heap: Global, answer: Result<T, F>) -> Result<String, Fail> {
     match answer {
         Ok(_) => Err(Fail::new("the call was not refused")),
         Err(fault) => Ok(format!(in heap; "{fault}")?),

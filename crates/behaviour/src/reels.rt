@@ -5,12 +5,16 @@ use fault::reel::ReelCause;
 use fault::report::{Fault, refusal_number};
 use std::alloc::Global;
 use std::test::Fail;
+use suite::suite::Suite;
 use suites::long::LongSuite;
 use suites::short::ShortSuite;
-use suite::suite::Suite;
 
-// The number with which a fresh reel of frames of so many bytes refuses to erase address 0, or 0.
-fn erase_number<Su: Suite + Drop>(heap: Global, frame: usize, suite: Su) -> Result<u8, Fail> {
+// The number with which a fresh reel of frames of so many bytes refuses to erase address 0, if it does.
+fn erase_number<Su: Suite + Drop>(
+    heap: Global,
+    frame: usize,
+    suite: Su,
+) -> Result<Option<u8>, Fail> {
     let mut reel = fresh_reel(heap, frame, 8209, suite)?;
     Ok(refusal_number(&reel.erase(0)))
 }
@@ -22,7 +26,7 @@ fn frames_go_in_and_out(rt: HostRuntime) -> Result<(), Fail> {
     reel.load(3, &[5u8; 16])?;
     reel.take(3, &mut out)?;
     reel.erase(3)?;
-    assert_eq!(rt; refusal_number(&reel.take(3, &mut [9u8; 16])), 9);
+    assert_eq!(rt; refusal_number(&reel.take(3, &mut [9u8; 16])), Some(9));
     assert_eq!(rt; out, [5u8; 16]);
     Ok(())
 }
@@ -30,7 +34,7 @@ fn frames_go_in_and_out(rt: HostRuntime) -> Result<(), Fail> {
 #[test]
 fn frames_are_2_to_513_whole_blocks(rt: HostRuntime) -> Result<(), Fail> {
     // 16 bytes are two short blocks, and 4,104 are 513
-    for (frame, number) in [(16, 0), (4104, 0), (4112, 5)] {
+    for (frame, number) in [(16, None), (4104, None), (4112, Some(5))] {
         assert_eq!(rt;
             erase_number(rt.alloc(), frame, ShortSuite::new())?,
             number,
@@ -38,7 +42,7 @@ fn frames_are_2_to_513_whole_blocks(rt: HostRuntime) -> Result<(), Fail> {
         );
     }
     // 16 bytes are one long block, 40 are no whole number of them, and 8,208 are 513
-    for (frame, number) in [(16, 5), (40, 5), (8208, 0)] {
+    for (frame, number) in [(16, Some(5)), (40, Some(5)), (8208, None)] {
         assert_eq!(rt;
             erase_number(rt.alloc(), frame, LongSuite::new())?,
             number,

@@ -2,14 +2,17 @@
 // its argument it makes so many products instead, for timing.
 #![tactic(auto)]
 
+use cipher::aes::Aes;
+use cipher::block_cipher::BlockCipher;
+use cipher::speck::Speck;
 use ciphersuite::cipher_suite::CipherSuite;
 use ciphersuite::keys::make_again;
-use ciphersuite::tally::Tally;
 use std::alloc::{AllocError, Global};
 use std::env;
-use std::fmt::Write;
+use suite::suite::Suite;
+use suites::block::Block;
+use suites::block_suite::BlockSuite;
 use suites::long::LongSuite;
-use suites::short::ShortSuite;
 
 // 32 bytes from 1 on, of which keys are cut.
 const KEY: [u8; 32] = [
@@ -17,19 +20,10 @@ const KEY: [u8; 32] = [
     27, 28, 29, 30, 31, 32,
 ];
 
-// Bytes as pairs of digits.
-fn hex(heap: Global, bytes: &[u8]) -> Result<String, AllocError> {
-    let mut text = String::new(heap);
-    for b in bytes {
-        write!(text, "{b:02X}")?;
-    }
-    Ok(text)
-}
-
 // The row of a block, as pairs of digits.
 fn block_hex<S: CipherSuite>(heap: Global, block: S::Block) -> Result<String, AllocError> {
     let row = S::row_of(block);
-    hex(heap, &row[0..S::L])
+    hex::encode_upper(heap, &row[..S::L])
 }
 
 // Tells what comes of making keys of these bytes.
@@ -70,24 +64,31 @@ fn show_blocks<S: CipherSuite>(
     Ok(())
 }
 
-// Tells all of one suite but how often it was asked.
+// Tells which keys a suite refuses, and what it makes of blocks.
 fn show<S: CipherSuite>(rt: &HostRuntime, suite: &mut S) -> anyhow::Result<()> {
     let len = S::L;
     println!(rt; "  blocks of {len} bytes")?;
-    try_keys::<S>(rt, &KEY[0..24], &KEY[0..len])?;
-    try_keys::<S>(rt, &KEY[0..16], &KEY[0..12])?;
-    try_keys::<S>(rt, &KEY[0..16], &[0; 32][0..len])?;
-    try_keys::<S>(rt, &KEY, &KEY[0..len])?;
-    try_keys::<S>(rt, &KEY[0..16], &KEY[0..len])?;
-    match S::make_keys(&KEY[0..16], &KEY[0..len]) {
+    try_keys::<S>(rt, &KEY[..24], &KEY[..len])?;
+    try_keys::<S>(rt, &KEY[..16], &KEY[..12])?;
+    try_keys::<S>(rt, &KEY[..16], &[0; 32][..len])?;
+    try_keys::<S>(rt, &KEY, &KEY[..len])?;
+    try_keys::<S>(rt, &KEY[..16], &KEY[..len])?;
+    match S::make_keys(&KEY[..16], &KEY[..len]) {
         Ok(keys) => show_blocks(rt, suite, &keys)?,
         Err(fault) => println!(rt; "  {fault}")?,
     }
     Ok(())
 }
 
-// Tells how often a suite was asked.
-fn show_asked(rt: &HostRuntime, asked: Tally) -> anyhow::Result<()> {
+// Tells all of a suite, and then how often it was asked.
+fn tell<B: Block<N>, C: BlockCipher<N>, const N: usize>(
+    rt: &HostRuntime,
+    name: &str,
+) -> anyhow::Result<()> {
+    println!(rt; "{name}")?;
+    let mut suite = BlockSuite::<B, C, N>::new();
+    show(rt, &mut suite)?;
+    let asked = suite.tally();
     println!(rt;
         "  it was asked for {} product and {} square",
         asked.products, asked.squarings
@@ -117,18 +118,12 @@ fn products(count: u64) -> [u8; 32] {
 
 fn run(rt: &HostRuntime) -> anyhow::Result<()> {
     if let Some(count) = asked(rt)? {
-        let row = hex(rt.alloc(), &products(count)[0..16])?;
+        let row = hex::encode_upper(rt.alloc(), &products(count)[..16])?;
         println!(rt; "after {count} products: {row}")?;
         return Ok(());
     }
-    println!(rt; "The long suite")?;
-    let mut long = LongSuite::new();
-    show(rt, &mut long)?;
-    show_asked(rt, long.tally())?;
-    println!(rt; "The short suite")?;
-    let mut short = ShortSuite::new();
-    show(rt, &mut short)?;
-    show_asked(rt, short.tally())?;
+    tell::<[u8; 16], Aes, 16>(rt, "The long suite")?;
+    tell::<u64, Speck, 8>(rt, "The short suite")?;
     Ok(())
 }
 

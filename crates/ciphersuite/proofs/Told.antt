@@ -11,7 +11,7 @@ use Rattle.ciphersuite.specs.Keys.{key_fault, CameFrom}
 -- an answer where nothing is refused
 pub accepted : {X E : Type 0} (o : Option E) (P : X → Type 0) (x : X) → o ≡ None → Answers o P (Ok x) → P x
 accepted None P x e h = h
-accepted (Some f) P x e h = absurd (let k : ◌≡◌ {A = ℕ} 0 1 = cc in omega arith)
+accepted (Some f) P x e h = cc
 
 pub not_refused : {X E : Type 0} (o : Option E) (P : X → Type 0) (f : E) → o ≡ None → Answers o P (Err f) → ⊥
 not_refused None P f e h = h

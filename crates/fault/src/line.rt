@@ -1,5 +1,5 @@
 // The refusals of a listing and of a loading, and the reel's as a loading passes them up.
-ghost use Rattle.std.specs.Prelude.{◌≡◌};
+ghost use Rattle.std.specs.Prelude.{◌≡◌, refl};
 ghost use Rattle.fault.specs.declared.layer.Layer.TheVariants.{Lines};
 ghost use Rattle.fault.specs.declared.line.LineCause.TheVariants.{Reel};
 ghost use Rattle.fault.specs.Faults.{line_report};
@@ -7,7 +7,7 @@ ghost use Rattle.std.proofs.Common.{rules};
 
 use crate::layer::Layer;
 use crate::reel::ReelFault;
-use crate::report::{Fault, Report};
+use crate::report::Fault;
 use std::fmt;
 use thiserror::Error;
 
@@ -45,25 +45,26 @@ impl From<ReelFault> for LineCause {
 impl Fault for LineFault {
     ghost tells = { line_report };
 
-    ghost layer = { Lines };
+    const LAYER: Layer = Layer::Lines;
 
-    ghost of_its_layer = { Prim.search rules };
+    ghost LAYER = { Lines };
+
+    ghost of_its_layer = { λ _. refl };
 
     ghost numbered = { Prim.search rules };
 
-    fn report(&self) -> Report {
-        let number = match self.cause {
+    fn number(&self) -> u8 {
+        match self.cause {
             LineCause::NotALine => 11,
             LineCause::NotDigits => 12,
             LineCause::NotAbove => 13,
             LineCause::NoRoom => 14,
-            LineCause::Reel(fault) => fault.report().number,
-        };
-        Report {
-            number,
-            layer: Layer::Lines,
-            place: self.line,
+            LineCause::Reel(fault) => fault.number(),
         }
+    }
+
+    fn place(&self) -> u64 {
+        self.line
     }
 }
 

@@ -1,11 +1,11 @@
 // The refusals of a reel, and the stock's as a reel passes them up.
-ghost use Rattle.std.specs.Prelude.{◌≡◌};
+ghost use Rattle.std.specs.Prelude.{◌≡◌, refl};
 ghost use Rattle.fault.specs.declared.layer.Layer.TheVariants.{Reel};
 ghost use Rattle.fault.specs.Faults.{passed_up, reel_report};
 ghost use Rattle.std.proofs.Common.{rules};
 
 use crate::layer::Layer;
-use crate::report::{Fault, Report};
+use crate::report::Fault;
 use crate::stock::StockFault;
 use std::fmt;
 use thiserror::Error;
@@ -46,24 +46,25 @@ impl From<StockFault> for ReelFault {
 impl Fault for ReelFault {
     ghost tells = { reel_report };
 
-    ghost layer = { Reel };
+    const LAYER: Layer = Layer::Reel;
 
-    ghost of_its_layer = { Prim.search rules };
+    ghost LAYER = { Reel };
+
+    ghost of_its_layer = { λ _. refl };
 
     ghost numbered = { Prim.search rules };
 
-    fn report(&self) -> Report {
-        let number = match self.cause {
+    fn number(&self) -> u8 {
+        match self.cause {
             ReelCause::NotBlocks => 5,
             ReelCause::NoAddress => 6,
             ReelCause::WrongArea => 7,
-            ReelCause::Stock(fault) => fault.report().number,
-        };
-        Report {
-            number,
-            layer: Layer::Reel,
-            place: self.address,
+            ReelCause::Stock(fault) => fault.number(),
         }
+    }
+
+    fn place(&self) -> u64 {
+        self.address
     }
 }
 

@@ -1,10 +1,9 @@
 // What every refusal tells.
-ghost use Rattle.std.specs.Prelude.{◌≡◌, ◌≤◌, ◌↔◌, MatchResult, IsOk};
+ghost use Rattle.std.specs.Prelude.{◌≡◌, ◌≤◌, MatchResult, Some, None};
 ghost use Rattle.fault.specs.declared.layer.Layer.{Layer};
 ghost use Rattle.fault.specs.declared.report.Report.{Report};
 
 use crate::layer::Layer;
-use std::error::Error;
 use std::fmt;
 
 // The number of a refusal, its layer, and its place there: a slot, an address, a line counted from 1, or 0 among parameters.
@@ -25,30 +24,45 @@ impl fmt::Display for Report {
     }
 }
 
-// What the faults of all layers have in common: each prints itself for an operator, and tells a report.
-pub trait Fault: Error {
+// What the faults of all layers have in common: each tells a report.
+pub trait Fault {
     // what a fault tells
     ghost tells: { Self → Report };
 
-    // the layer that its refusals stand in
-    ghost layer: { Layer };
+    // The layer that its refusals stand in.
+    const LAYER: Layer;
+
+    ghost LAYER: { Layer };
+
+    ghost of_its_layer: { (e : Self) → (tells e).layer ≡ LAYER };
+
+    // The number of the refusal.
+    fn number(&self) -> u8
+        ensures { result ≡ (tells self.now).number };
+
+    // Its place in the layer.
+    fn place(&self) -> u64
+        ensures { result ≡ (tells self.now).place };
 
     fn report(&self) -> Report
-        ensures { result ≡ tells self.now };
+        ensures { result ≡ tells self.now }
+    {
+        Report {
+            number: self.number(),
+            layer: Self::LAYER,
+            place: self.place(),
+        }
+    }
 
-    ghost of_its_layer: { (e : Self) → (tells e).layer ≡ layer };
-
-    // No refusal has the number 0, so that 0 can stand for none.
     ghost numbered: { (e : Self) → (1 ≤ (tells e).number) × ((tells e).number ≤ 15) };
 }
 
-// The number of a call's refusal, or 0 where it was not refused.
-pub fn refusal_number<T, F: Fault>(answer: &Result<T, F>) -> u8
-    ensures number { MatchResult answer.now (λ _. result ≡ 0) (λ e. result ≡ (F.tells e).number) }
-    ensures none { result ≡ 0 ↔ IsOk answer.now }
+// The number of a call's refusal, if it was refused.
+pub fn refusal_number<T, F: Fault>(answer: &Result<T, F>) -> Option<u8>
+    ensures { MatchResult answer.now (λ _. result ≡ None) (λ e. result ≡ Some (F.tells e).number) }
 {
     match answer {
-        Ok(_) => 0,
-        Err(fault) => fault.report().number,
+        Ok(_) => None,
+        Err(fault) => Some(fault.number()),
     }
 }

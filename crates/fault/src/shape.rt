@@ -1,10 +1,11 @@
 // The refusals of what a stock is made from.
+ghost use Rattle.std.specs.Prelude.{refl};
 ghost use Rattle.fault.specs.declared.layer.Layer.TheVariants.{Parameters};
 ghost use Rattle.fault.specs.Faults.{shape_report};
 ghost use Rattle.std.proofs.Common.{rules};
 
 use crate::layer::Layer;
-use crate::report::{Fault, Report};
+use crate::report::Fault;
 use thiserror::Error;
 
 // Why a frame size or a bad-slot list is not made, and what an operator is told.
@@ -19,17 +20,19 @@ pub enum ShapeFault {
 impl Fault for ShapeFault {
     ghost tells = { shape_report };
 
-    ghost layer = { Parameters };
+    const LAYER: Layer = Layer::Parameters;
 
-    ghost of_its_layer = { Prim.search rules };
+    ghost LAYER = { Parameters };
+
+    ghost of_its_layer = { λ _. refl };
 
     ghost numbered = { Prim.search rules };
 
-    fn report(&self) -> Report {
-        Report {
-            number: *self as u8,
-            layer: Layer::Parameters,
-            place: 0,
-        }
+    fn number(&self) -> u8 {
+        *self as u8
+    }
+
+    fn place(&self) -> u64 {
+        0
     }
 }

@@ -1,10 +1,11 @@
 // The refusals of a stock.
+ghost use Rattle.std.specs.Prelude.{refl};
 ghost use Rattle.fault.specs.declared.layer.Layer.TheVariants.{Stock};
 ghost use Rattle.fault.specs.Faults.{stock_report};
 ghost use Rattle.std.proofs.Common.{rules};
 
 use crate::layer::Layer;
-use crate::report::{Fault, Report};
+use crate::report::Fault;
 use thiserror::Error;
 
 // Why a stock turns a call away, and what an operator is told of the slot.
@@ -31,17 +32,19 @@ pub struct StockFault {
 impl Fault for StockFault {
     ghost tells = { stock_report };
 
-    ghost layer = { Stock };
+    const LAYER: Layer = Layer::Stock;
 
-    ghost of_its_layer = { Prim.search rules };
+    ghost LAYER = { Stock };
+
+    ghost of_its_layer = { λ _. refl };
 
     ghost numbered = { Prim.search rules };
 
-    fn report(&self) -> Report {
-        Report {
-            number: self.cause as u8,
-            layer: Layer::Stock,
-            place: self.slot,
-        }
+    fn number(&self) -> u8 {
+        self.cause as u8
+    }
+
+    fn place(&self) -> u64 {
+        self.slot
     }
 }

@@ -41,7 +41,7 @@ impl Outcome {
     pub(crate) fn refusal(&self) -> u8
         ensures { result ≡ refusal_number self.now.loaded }
     {
-        report::refusal_number(&self.loaded)
+        report::refusal_number(&self.loaded).unwrap_or(0)
     }
 }
 

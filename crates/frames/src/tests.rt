@@ -13,7 +13,7 @@ struct Case {
     kept: usize,
 }
 
-fn come_true(rt: &impl Abort, heap: Global, cases: &[Case]) -> Result<(), Fail> {
+fn check_cases(rt: &impl Abort, heap: Global, cases: &[Case]) -> Result<(), Fail> {
     for case in cases {
         let outcome = filter(heap, case.text)?;
         assert_eq!(rt; outcome.lines(), case.lines);
@@ -46,7 +46,7 @@ fn whole_lines_come_out_again(rt: HostRuntime) -> Result<(), Fail> {
             kept: 84,
         },
     ];
-    come_true(&rt, rt.alloc(), &cases)
+    check_cases(&rt, rt.alloc(), &cases)
 }
 
 #[test]
@@ -78,7 +78,7 @@ fn a_line_that_is_none_is_refused(rt: HostRuntime) -> Result<(), Fail> {
             kept: 0,
         },
     ];
-    come_true(&rt, rt.alloc(), &cases)
+    check_cases(&rt, rt.alloc(), &cases)
 }
 
 #[test]
@@ -109,7 +109,7 @@ fn digits_are_0_to_9_and_capital_a_to_f(rt: HostRuntime) -> Result<(), Fail> {
             kept: 0,
         },
     ];
-    come_true(&rt, rt.alloc(), &cases)
+    check_cases(&rt, rt.alloc(), &cases)
 }
 
 #[test]
@@ -140,5 +140,5 @@ fn addresses_rise_and_stay_below_the_slots(rt: HostRuntime) -> Result<(), Fail> 
             kept: 0,
         },
     ];
-    come_true(&rt, rt.alloc(), &cases)
+    check_cases(&rt, rt.alloc(), &cases)
 }

@@ -4,6 +4,7 @@ use Rattle.std.specs.Simd.{first_chunks}
 use borrow.Rule.Slice.PartMut.{put_mid}
 use Rattle.std.proofs.lemmas.List.{places, append_assoc, drop_more, take_more, take_more_set}
 use Rattle.std.proofs.lemmas.Slice.{take-put_mid}
+use Rattle.std.proofs.Math.Bool.{and-true}
 use Rattle.fault.specs.declared.line.LineCause.{LineCause}
 use Rattle.fault.specs.declared.line.LineCause.TheVariants.{NotDigits}
 use Rattle.std.specs.Int.{w32, w64, to_be_bytes, from_be_bytes}
@@ -45,21 +46,17 @@ two xs i h =
 -- what a test says by whether 12 follows from it
 pub told_true : (b : Bool) → cond b None (Some NotDigits) ≡ None → b ≡ true
 told_true true e = refl
-told_true false e = absurd (let k : ◌≡◌ {A = ℕ} 0 1 = cc in omega arith)
+told_true false e = cc
 
 pub told_false : (b : Bool) (f : LineCause) → cond b None (Some NotDigits) ≡ Some f → (b ≡ false) × (Some NotDigits ≡ Some f)
-told_false true f e = absurd (let k : ◌≡◌ {A = ℕ} 0 1 = cc in omega arith)
+told_false true f e = cc
 told_false false f e = (refl, e)
 
-and_true : (b : Bool) (x : Bool) → b && true ≡ x → b ≡ x
-and_true true x e = e
-and_true false x e = e
-
 hex_one : (c : ℕ) → not_hex (c ∷ []) ≡ None → is_hex c ≡ true
-hex_one c e = and_true (is_hex c) true (told_true (is_hex c && true) e)
+hex_one c e = sym (and-true (is_hex c)) ∙ told_true (is_hex c && true) e
 
 not_one : (c : ℕ) (f : LineCause) → not_hex (c ∷ []) ≡ Some f → (is_hex c ≡ false) × (Some NotDigits ≡ Some f)
-not_one c f e = let t = told_false (is_hex c && true) f e in (and_true (is_hex c) false t.0, t.1)
+not_one c f e = let t = told_false (is_hex c && true) f e in (sym (and-true (is_hex c)) ∙ t.0, t.1)
 
 -- a pair more is read; `chunks` are the text's pairs, and what comes before this one is digits alone
 module _ (text : List ℕ) (chunks : List (List ℕ)) (i : ℕ) (d : List ℕ) (ec : chunks ≡ first_chunks 2 (length text / 2) text) (h : i < length text / 2) (left : all_hex (drop (2 * i) text) ≡ all_hex text) where

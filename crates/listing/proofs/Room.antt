@@ -18,10 +18,10 @@ record Written (n room : ℕ) (ts : List (List ℕ)) (l : Listed) : Type 0 where
   pub next : (e : LineFault) → l.fault ≡ Some e → (e ≡ at_line NoRoom (n + suc count)) × (room < length (joined (take (suc count) ts)))
 
 none_some : {X A : Type 0} (x : X) → ◌≡◌ {A = Option X} None (Some x) → A
-none_some x e = absurd (let k : ◌≡◌ {A = ℕ} 0 1 = cc in omega arith)
+none_some x e = cc
 
 some_none : {X A : Type 0} (x : X) → ◌≡◌ {A = Option X} (Some x) None → A
-some_none x e = absurd (let k : ◌≡◌ {A = ℕ} 0 1 = cc in omega arith)
+some_none x e = cc
 
 some_is : {X : Type 0} (x y : X) → Some x ≡ Some y → x ≡ y
 some_is x y e = cc

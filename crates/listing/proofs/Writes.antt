@@ -4,7 +4,7 @@ use borrow.Author.Tests.{lt-leb}
 use borrow.Rule.Slice.PartMut.{put_mid}
 use Rattle.std.proofs.lemmas.List.{at_drop_more, append_assoc, append-nil, drop-drop, length-append, take-append-drop, length-take-le}
 use Rattle.std.proofs.lemmas.Slice.{take-put_mid, drop-put_mid}
-use Rattle.stock.specs.Slots.{Slot, bad, blank, filled, Contents, slot_at, bytes_in, Framed}
+use Rattle.stock.specs.Slots.{Slot, bad, blank, filled, Contents, slot_at, bytes_in}
 use Rattle.stock.specs.Areas.{written}
 use Rattle.stock.specs.Refusals.{answered}
 use Rattle.stock.specs.Stocks.{condition_of, condition_at, get_refusal, get_fault, got}
@@ -22,8 +22,8 @@ use Rattle.listing.proofs.Pairs.{length_mid, length_digits, length_address}
 module _ (ss : List Slot) (i : ℕ) (h : i < length ss) where
   next_of : (s : Slot) (rest : List Slot) → condition_of s ≡ Filled → lines_of i (s ∷ rest) ≡ line_for i (bytes_in s) ∷ lines_of (i + 1) rest
   next_of (filled bs) rest e = refl
-  next_of bad rest e = absurd (let k : ◌≡◌ {A = ℕ} 0 1 = cc in omega arith)
-  next_of blank rest e = absurd (let k : ◌≡◌ {A = ℕ} 0 1 = cc in omega arith)
+  next_of bad rest e = cc
+  next_of blank rest e = cc
 
   skip_of : (s : Slot) (rest : List Slot) → (condition_of s ≡ Filled → ⊥) → lines_of i (s ∷ rest) ≡ lines_of (i + 1) rest
   skip_of (filled bs) rest ne = absurd (ne refl)
@@ -96,11 +96,11 @@ module _ (h : Contents) (i : ℕ) (l : i < length h.slots) where
 -- what a get of a slot's frame into a row of its length tells, r being its answer and `after` the row then
 module _ (h : Contents) (i : ℕ) (row after : List ℕ) (r : Result (Unit {0}) StockFault) (er : r ≡ answered (get_fault h i (length row)) tt) where
   refusal_none : (c : Condition) (fits : Bool) → get_refusal c i fits ≡ None → c ≡ Filled
-  refusal_none NoSlot fits e = absurd (let k : ◌≡◌ {A = ℕ} 0 1 = cc in omega arith)
-  refusal_none Bad true e = absurd (let k : ◌≡◌ {A = ℕ} 0 1 = cc in omega arith)
-  refusal_none Bad false e = absurd (let k : ◌≡◌ {A = ℕ} 0 1 = cc in omega arith)
-  refusal_none Blank true e = absurd (let k : ◌≡◌ {A = ℕ} 0 1 = cc in omega arith)
-  refusal_none Blank false e = absurd (let k : ◌≡◌ {A = ℕ} 0 1 = cc in omega arith)
+  refusal_none NoSlot fits e = cc
+  refusal_none Bad true e = cc
+  refusal_none Bad false e = cc
+  refusal_none Blank true e = cc
+  refusal_none Blank false e = cc
   refusal_none Filled fits e = refl
 
   allowed : is_ok r ≡ true → get_fault h i (length row) ≡ None
@@ -108,7 +108,7 @@ module _ (h : Contents) (i : ℕ) (row after : List ℕ) (r : Result (Unit {0}) 
     where
       by_fault : (o : Option StockFault) → is_ok (answered {X = Unit {0}} o tt) ≡ true → o ≡ None
       by_fault None e = refl
-      by_fault (Some f) e = absurd (let k : ◌≡◌ {A = ℕ} 0 1 = cc in omega arith)
+      by_fault (Some f) e = cc
 
   pub got_filled : is_ok r ≡ true → after ≡ got h i row → (condition_at h i ≡ Filled) × (after ≡ bytes_in (slot_at h i))
   got_filled ok ea = let n = allowed ok in (refusal_none (condition_at h i) (length row == h.frame) n, ea ∙ rw n)
@@ -125,7 +125,7 @@ module _ (n long room : ℕ) where
   no_room_tells e h = by_test (leb long room) refl h
     where
       by_test : (b : Bool) → leb long room ≡ b → cond b None (Some (at_line NoRoom (n + 1))) ≡ Some e → (room < long) × (e ≡ at_line NoRoom (n + 1))
-      by_test true q h = absurd (let k : ◌≡◌ {A = ℕ} 0 1 = cc in omega arith)
+      by_test true q h = cc
       by_test false q h = (leb-false long room q, cc)
 
   pub room_tells : no_room n long room ≡ None → long ≤ room
@@ -133,16 +133,7 @@ module _ (n long room : ℕ) where
     where
       by_test : (b : Bool) → leb long room ≡ b → cond b None (Some (at_line NoRoom (n + 1))) ≡ None → long ≤ room
       by_test true q h = leb-true long room q
-      by_test false q h = absurd (let k : ◌≡◌ {A = ℕ} 0 1 = cc in omega arith)
-
-module _ (s : Slot) where
-  pub framed_filled : (n : ℕ) → Framed n s → condition_of s ≡ Filled → length (bytes_in s) ≡ n
-  framed_filled n f e = by_slot s f e
-    where
-      by_slot : (x : Slot) → Framed n x → condition_of x ≡ Filled → length (bytes_in x) ≡ n
-      by_slot (filled bs) f e = f
-      by_slot bad f e = absurd (let k : ◌≡◌ {A = ℕ} 0 1 = cc in omega arith)
-      by_slot blank f e = absurd (let k : ◌≡◌ {A = ℕ} 0 1 = cc in omega arith)
+      by_test false q h = cc
 
 pub no_bytes : (s : Slot) → (condition_of s ≡ Filled → ⊥) → (k : ℕ) → get_or (bytes_in s) k 0 < 256
 no_bytes (filled bs) ne k = absurd (ne refl)

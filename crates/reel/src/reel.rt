@@ -47,7 +47,7 @@ impl<St: Stock, Su: Suite> LockedReel<St, Su> {
         &self.stock
     }
 
-    // The first of 5, 6 and 7 that stands in the way of a call, where the row or area fits or not.
+    // Whether the shape allows a call: 5, then 6, then 7 unless the row or area `fits`.
     fn check_shape(&self, address: u64, fits: bool) -> Result<(), ReelFault>
         ensures { result ≡ answered (shape_fault Su.L (locked_book St.held self.now) address fits) tt }
     {

@@ -35,7 +35,7 @@ impl Condition {
         .map_err(|cause| StockFault { cause, slot })
     }
 
-    // Whether a clear is allowed of a slot in this condition: 6, then 8, as where a row to put fits.
+    // Whether a clear is allowed of a slot in this condition: 6, then 8.
     pub fn allows_clear(self, slot: u64) -> Result<(), StockFault>
         ensures { result ≡ answered (clear_refusal self slot) tt }
     {

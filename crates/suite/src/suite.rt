@@ -1,7 +1,7 @@
 // What a suite is.
 ghost use Rattle.std.specs.Prelude.{◌≡◌, ℕ, ◌≤◌};
 
-// A suite is what sectors are sealed with. As yet it is its block length: a frame is a number of whole blocks.
+// A suite is what sectors are sealed with. Here it is its block length: a frame is a number of whole blocks.
 pub trait Suite {
     // the block length in bytes
     const L: usize;

@@ -19,7 +19,3 @@ product_meant a b r la lb lr e =
 -- a word that is read of a row
 pub word_meant : (s : List ℕ) (r : ℕ) → r ≡ value 64 s → at 8 r ≡ read_at 8 s
 word_meant s r e = elem_path 64 (ap (λ x. x % 2 ^ 64) e ∙ mod-eq_of_lt (mod-lt (number_from_digits 256 s) (pow_pos 64)))
-
--- the row of a word
-pub word_row : (x : ℕ) (s : List ℕ) → s ≡ bytes_of 8 x → x < 2 ^ 64 → s ≡ bytes_of 8 (x % 2 ^ 64)
-word_row x s e l = e ∙ ap (bytes_of 8) (sym (mod-eq_of_lt l))

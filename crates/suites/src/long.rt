@@ -31,12 +31,13 @@ impl Block<16> for [u8; 16] {
         *row
     }
 
+    // `spread` tells that what it copies are bytes.
     fn to_row(self) -> [u8; 16] {
         spread(&self)
     }
 
     fn number(j: u64) -> [u8; 16] {
-        (j as u128).to_row()
+        u128::from(j).to_row()
     }
 
     fn zero() -> [u8; 16] {

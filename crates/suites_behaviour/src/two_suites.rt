@@ -5,33 +5,17 @@ use std::process::Abort;
 use suites::long::LongSuite;
 use suites::short::ShortSuite;
 
-// Keys of so many bytes, the hash key zeros but for its last byte, and the number of the refusal that they meet, or 0.
-#[derive(Clone, Copy)]
-struct KeyCase {
-    cipher_len: usize,
-    hash_len: usize,
-    last: u8,
-    number: u8,
-}
-
-const fn keys_of(cipher_len: usize, hash_len: usize, last: u8, number: u8) -> KeyCase {
-    KeyCase {
-        cipher_len,
-        hash_len,
-        last,
-        number,
-    }
-}
-
-fn refuses<S: CipherSuite>(rt: &impl Abort, cases: &[KeyCase]) {
-    for case in cases {
-        assert!(rt; case.cipher_len <= 40 && case.hash_len <= 40);
+// Each case: how many bytes the cipher key and the hash key have, the last byte of the hash key (the others are zeros), and the
+// number of the refusal that these keys meet, if any.
+fn refuses<S: CipherSuite>(rt: &impl Abort, cases: &[(usize, usize, u8, Option<u8>)]) {
+    for &(cipher_len, hash_len, last, number) in cases {
+        assert!(rt; cipher_len <= 40 && hash_len <= 40);
         let mut hash = [0; 40];
-        if let Some(last) = hash[..case.hash_len].last_mut() {
-            *last = case.last;
+        if let Some(byte) = hash[..hash_len].last_mut() {
+            *byte = last;
         }
-        let made = S::make_keys(&[9; 40][..case.cipher_len], &hash[..case.hash_len]);
-        assert_eq!(rt; refusal_number(&made), case.number);
+        let made = S::make_keys(&[9; 40][..cipher_len], &hash[..hash_len]);
+        assert_eq!(rt; refusal_number(&made), number);
     }
 }
 
@@ -40,21 +24,21 @@ fn keys_are_refused_by_the_lowest_number(rt: HostRuntime) {
     refuses::<LongSuite>(
         &rt,
         &[
-            keys_of(24, 8, 0, 2),
-            keys_of(0, 16, 1, 2),
-            keys_of(16, 17, 0, 3),
-            keys_of(32, 16, 0, 4),
-            keys_of(32, 16, 1, 0),
-            keys_of(16, 16, 128, 0),
+            (24, 8, 0, Some(2)),
+            (0, 16, 1, Some(2)),
+            (16, 17, 0, Some(3)),
+            (32, 16, 0, Some(4)),
+            (32, 16, 1, None),
+            (16, 16, 128, None),
         ],
     );
     refuses::<ShortSuite>(
         &rt,
         &[
-            keys_of(32, 8, 1, 2),
-            keys_of(16, 16, 1, 3),
-            keys_of(16, 8, 0, 4),
-            keys_of(16, 8, 1, 0),
+            (32, 8, 1, Some(2)),
+            (16, 16, 1, Some(3)),
+            (16, 8, 0, Some(4)),
+            (16, 8, 1, None),
         ],
     );
 }
@@ -64,6 +48,7 @@ fn figures<S: CipherSuite>(rt: &impl Abort, suite: &mut S) {
     let len = S::L;
     let product = S::row_of(suite.multiply(S::number(0x0e), S::number(0x11)));
     let square = S::row_of(suite.square(S::number(3)));
+    assert!(rt; len >= 8 && len <= 32);
     assert_eq!(rt; product[len - 1], 0xee);
     assert_eq!(rt; square[len - 1], 5);
     let sum = S::row_of(S::add(S::number(0x0102_0304_0506_0708), S::zero()));
@@ -88,7 +73,7 @@ fn products_and_squares_are_tallied_apart(rt: HostRuntime) {
 
 // The row of the block whose top bit alone is set, doubled.
 fn top_doubled<S: CipherSuite>(suite: &mut S) -> [u8; 32] {
-    let mut top = [0; 32];
+    let mut top = [0; 16];
     top[0] = 0x80;
     S::row_of(suite.multiply(S::block_from(&top), S::number(2)))
 }

@@ -5,9 +5,9 @@ use fault::reel::ReelCause;
 use fault::report::{Fault, refusal_number};
 use std::alloc::Global;
 use std::test::Fail;
+use suite::suite::Suite;
 use suites::long::LongSuite;
 use suites::short::ShortSuite;
-use suite::suite::Suite;
 
 // The number with which a fresh reel of frames of so many bytes refuses to erase address 0, or 0.
 fn erase_number<Su: Suite + Drop>(heap: Global, frame: usize, suite: Su) -> Result<u8, Fail> {

@@ -9,7 +9,7 @@ use stock::bad::BadSlots;
 use stock::size::FrameSize;
 use suite::suite::Suite;
 
-pub fn bad_slots(slots: &[u64]) -> Result<BadSlots, Fail> {
+pub(crate) fn bad_slots(slots: &[u64]) -> Result<BadSlots, Fail> {
     let mut bad = BadSlots::none();
     for slot in slots {
         bad.add(*slot)?;
@@ -18,12 +18,12 @@ pub fn bad_slots(slots: &[u64]) -> Result<BadSlots, Fail> {
 }
 
 // A fresh flat stock with frames of so many bytes over an area, and these slots listed as bad.
-pub fn fresh_stock(area: Vec<u8>, frame: usize, bad: &[u64]) -> Result<FlatStock, Fail> {
+pub(crate) fn fresh_stock(area: Vec<u8>, frame: usize, bad: &[u64]) -> Result<FlatStock, Fail> {
     Ok(FlatStock::fresh(area, FrameSize::new(frame)?, bad_slots(bad)?))
 }
 
 // A fresh flat reel with frames of so many bytes over so large an area, slot 2 bad.
-pub fn fresh_reel<Su: Suite + Drop>(
+pub(crate) fn fresh_reel<Su: Suite + Drop>(
     heap: Global,
     frame: usize,
     area: usize,
@@ -34,7 +34,10 @@ pub fn fresh_reel<Su: Suite + Drop>(
 }
 
 // What an operator is told of a refused call.
-pub fn told<T: Drop, F: Fault + Error>(heap: Global, answer: Result<T, F>) -> Result<String, Fail> {
+pub(crate) fn told<T: Drop, F: Fault + Error>(
+    heap: Global,
+    answer: Result<T, F>,
+) -> Result<String, Fail> {
     match answer {
         Ok(_) => Err(Fail::new("the call was not refused")),
         Err(fault) => Ok(format!(in heap; "{fault}")?),

@@ -2,17 +2,14 @@
 // its argument it makes so many products instead, for timing.
 #![tactic(auto)]
 
-use cipher::aes::Aes;
-use cipher::block_cipher::BlockCipher;
-use cipher::speck::Speck;
 use ciphersuite::cipher_suite::CipherSuite;
 use ciphersuite::keys::make_again;
+use ciphersuite::tally::Tally;
 use std::alloc::{AllocError, Global};
 use std::env;
 use suite::suite::Suite;
-use suites::block::Block;
-use suites::block_suite::BlockSuite;
 use suites::long::LongSuite;
+use suites::short::ShortSuite;
 
 // 32 bytes from 1 on, of which keys are cut.
 const KEY: [u8; 32] = [
@@ -65,7 +62,8 @@ fn show_blocks<S: CipherSuite>(
 }
 
 // Tells which keys a suite refuses, and what it makes of blocks.
-fn show<S: CipherSuite>(rt: &HostRuntime, suite: &mut S) -> anyhow::Result<()> {
+fn show<S: CipherSuite>(rt: &HostRuntime, name: &str, suite: &mut S) -> anyhow::Result<()> {
+    println!(rt; "{name}")?;
     let len = S::L;
     println!(rt; "  blocks of {len} bytes")?;
     try_keys::<S>(rt, &KEY[..24], &KEY[..len])?;
@@ -80,15 +78,8 @@ fn show<S: CipherSuite>(rt: &HostRuntime, suite: &mut S) -> anyhow::Result<()> {
     Ok(())
 }
 
-// Tells all of a suite, and then how often it was asked.
-fn tell<B: Block<N>, C: BlockCipher<N>, const N: usize>(
-    rt: &HostRuntime,
-    name: &str,
-) -> anyhow::Result<()> {
-    println!(rt; "{name}")?;
-    let mut suite = BlockSuite::<B, C, N>::new();
-    show(rt, &mut suite)?;
-    let asked = suite.tally();
+// Tells how often a suite was asked.
+fn show_asked(rt: &HostRuntime, asked: Tally) -> anyhow::Result<()> {
     println!(rt;
         "  it was asked for {} product and {} square",
         asked.products, asked.squarings
@@ -122,8 +113,12 @@ fn run(rt: &HostRuntime) -> anyhow::Result<()> {
         println!(rt; "after {count} products: {row}")?;
         return Ok(());
     }
-    tell::<[u8; 16], Aes, 16>(rt, "The long suite")?;
-    tell::<u64, Speck, 8>(rt, "The short suite")?;
+    let mut long = LongSuite::new();
+    show(rt, "The long suite", &mut long)?;
+    show_asked(rt, long.tally())?;
+    let mut short = ShortSuite::new();
+    show(rt, "The short suite", &mut short)?;
+    show_asked(rt, short.tally())?;
     Ok(())
 }
 

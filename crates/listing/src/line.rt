@@ -29,14 +29,13 @@ pub(crate) fn split_line(text: &[u8]) -> Option<(&[u8], &[u8])>
 }
 
 // The address that eight digits spell.
-fn read_address(text: &[u8]) -> Result<u64, LineCause>
+fn read_address(text: &[u8]) -> Result<u32, LineCause>
     requires { length text.now ≡ 8 }
-    ensures answer { result ≡ answered (not_hex text.now) (address_from (row_of text.now)) }
-    ensures small { IfOk result (λ a. a < 2 ^ 32) }
+    ensures { result ≡ answered (not_hex text.now) (address_from (row_of text.now)) }
 {
     let mut bytes = [0u8; 4];
     read_row(text, &mut bytes)?;
-    Ok(u64::from(u32::from_be_bytes(bytes)))
+    Ok(u32::from_be_bytes(bytes))
 }
 
 // The address of a line; its frame goes into `frame`. Refused by 11 to 13.
@@ -52,7 +51,7 @@ pub(crate) fn read_line(line: &[u8], low: u64, frame: &mut [u8]) -> Result<u64, 
     if text.len() != 9 + 2 * frame.len() {
         return Err(LineCause::NotALine);
     }
-    let address = read_address(&text[..8])?;
+    let address = u64::from(read_address(&text[..8])?);
     if text[8] != b' ' {
         return Err(LineCause::NotDigits);
     }

@@ -5,13 +5,13 @@ use Rattle.listing.specs.Lines.{address_from}
 use Rattle.listing.proofs.Pairs.{word_is}
 use Rattle.listing.proofs.line.read_address.Goals as goal
 
-pub returns-in_err-read_row-clause-answer : goal.returns-in_err-read_row-clause-answer
-returns-in_err-read_row-clause-answer c =
+pub returns-in_err-read_row : goal.returns-in_err-read_row
+returns-in_err-read_row c =
     let p = err_from_is_err_and c.from_residual.result c.from_residual.ensures.1 in
     let e = err_answers _ _ _ c.in_err-read_row.ensures.answer in
     rw e (p.1 ∙ ap Err p.2)
 
-pub returns-clause-answer : goal.returns-clause-answer
-returns-clause-answer c =
+pub returns : goal.returns
+returns c =
     let o = ok_answers _ _ _ c.in_ok-read_row.ensures.answer in
-    rw o.0 (ap Ok (c.from.ensures ∙ (c.from_be_bytes.ensures ∙ (word_is c.read_row.new.row ∙ ap address_from c.in_ok-read_row.ensures.row))))
+    rw o.0 (ap Ok (c.from_be_bytes.ensures ∙ (word_is c.read_row.new.row ∙ ap address_from c.in_ok-read_row.ensures.row)))

@@ -13,11 +13,6 @@ frame-requires c =
     let u = got (flat_held s) c.args.slot _ c.condition.ensures _ _ c.get.ensures _ _ c.in_ok-allows_get.ensures in
     rw s.count (rw slots_long at u.0.below)
 
-pub copy_from_slice-requires : goal.copy_from_slice-requires
-copy_from_slice-requires c =
-    let u = got (flat_held c.args.self.now) c.args.slot _ c.condition.ensures _ _ c.get.ensures _ _ c.in_ok-allows_get.ensures in
-    u.1 ∙ sym c.frame.ensures.len
-
 pub returns-clause-area : goal.returns-clause-area
 returns-clause-area c =
     let s = c.args.self.now in

@@ -7,7 +7,7 @@ ghost use Rattle.cipher.specs.Aes.{aes_takes};
 
 use crate::key_bytes::KeyBytes;
 
-mod calls;
+pub mod calls;
 mod schedule;
 mod steps;
 

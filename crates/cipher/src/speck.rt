@@ -3,7 +3,7 @@ ghost use Rattle.std.specs.Prelude.{◌≡◌, length};
 ghost use Rattle.arith.specs.Rows.{Bytes};
 ghost use Rattle.cipher.specs.Speck.{speck_keys};
 
-mod calls;
+pub mod calls;
 mod steps;
 
 // The key bytes, and the round keys made from them.

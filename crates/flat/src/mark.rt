@@ -30,8 +30,8 @@ pub(crate) fn fill_slot(slot: &mut [u8], bytes: &[u8])
     let Some((mark, frame)) = slot.split_first_mut() else {
         unreachable!();
     };
-    *mark = FILLED;
     frame.copy_from_slice(bytes);
+    *mark = FILLED;
 }
 
 // Clears a slot.

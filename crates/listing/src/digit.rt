@@ -24,11 +24,10 @@ fn value(c: u8) -> Result<u8, LineCause>
     ensures answer { result ≡ answered (not_hex (c ∷ [])) (hex_value c) }
     ensures small { OnOk result (hex_value c < 16) }
 {
-    match c {
-        b'0'..=b'9' => Ok(c - b'0'),
-        b'A'..=b'F' => Ok(c - b'A' + 10),
-        _ => Err(LineCause::NotDigits),
+    if !c.is_ascii_digit() && !matches!(c, b'A'..=b'F') {
+        return Err(LineCause::NotDigits);
     }
+    Ok(if c <= b'9' { c - b'0' } else { c - (b'A' - 10) })
 }
 
 // Writes each byte as two digits.

@@ -1,8 +1,9 @@
 // One line of a listing: writing it, cutting it off a text, and reading it.
-ghost use Rattle.std.specs.Prelude.{◌≡◌, ℕ, ◌+◌, ◌*◌, ◌^◌, ◌<◌, ◌≤◌, length, MatchOption, IfOk, OnOk, slice_index};
+ghost use Rattle.std.specs.Prelude.{◌≡◌, ℕ, ◌+◌, ◌*◌, ◌^◌, ◌<◌, ◌≤◌, length, MatchOption, MatchResult, IfOk, OnOk, slice_index};
 ghost use Rattle.stock.specs.Refusals.{answered};
 ghost use Rattle.listing.specs.Digits.{not_hex, row_of};
 ghost use Rattle.listing.specs.Lines.{line_of, IsFirstLine, address_from, line_for, address_in, frame_in, line_cause};
+ghost use Rattle.fault.specs.declared.line.LineCause.TheVariants.{NotAbove};
 
 use crate::digit::{read_row, write_row};
 use fault::line::LineCause;
@@ -38,6 +39,17 @@ fn read_address(text: &[u8]) -> Result<u32, LineCause>
     Ok(u32::from_be_bytes(bytes))
 }
 
+// Refused by 13 where the address is below `low`.
+fn check_above(address: u64, low: u64) -> Result<(), LineCause>
+    requires { address < 2 ^ 32 }
+    ensures { MatchResult result (λ _. low ≤ address) (λ e. (e ≡ NotAbove) × (address < low)) }
+{
+    if address < low {
+        return Err(LineCause::NotAbove);
+    }
+    Ok(())
+}
+
 // The address of a line; its frame goes into `frame`. Refused by 11 to 13.
 pub(crate) fn read_line(line: &[u8], low: u64, frame: &mut [u8]) -> Result<u64, LineCause>
     requires { length frame.old ≤ 8208 }
@@ -56,8 +68,6 @@ pub(crate) fn read_line(line: &[u8], low: u64, frame: &mut [u8]) -> Result<u64, 
         return Err(LineCause::NotDigits);
     }
     read_row(&text[9..], frame)?;
-    if address < low {
-        return Err(LineCause::NotAbove);
-    }
+    check_above(address, low)?;
     Ok(address)
 }

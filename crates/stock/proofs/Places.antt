@@ -1,34 +1,18 @@
--- Rows of places: asking for a number, and filling the first empty place. Assumes nothing.
-use Rattle.std.proofs.Common.{◌≡◌, ℕ, zero, suc, ◌<◌, ◌≤◌, ◌≢◌, Bool, true, false, cond, ◌||◌, List, [], ◌∷◌, ◌++◌, length, get_or, set, Some, None, Option, is_none, position, nat_eq, refl, sym, ap, ◌∙◌, ⊎_elim, arith, ltb-false}
-use Rattle.std.specs.List.{list_any, position_or_len}
-use Rattle.std.specs.Option.{option_eq}
+-- Rows of places, and filling the first empty one. Assumes nothing.
+use Rattle.std.proofs.Common.{◌≡◌, ℕ, zero, suc, ◌<◌, ◌≤◌, ◌≢◌, Bool, true, false, cond, List, [], ◌∷◌, ◌++◌, length, get_or, set, Some, None, Option, is_none, position, refl, sym, ap, ◌∙◌, ⊎_elim, arith, ltb-false}
+use Rattle.std.specs.List.{position_or_len}
 use Rattle.std.proofs.lemmas.List.{get_or-set_same, get_or-set_other}
 use Rattle.std.proofs.lemmas.List.Quantifiers.{position-Some}
 use Rattle.std.proofs.lemmas.Bool.{cases_eq}
-use Rattle.stock.specs.Sizes.{listed}
 use Rattle.stock.specs.Places.{numbers, Packed}
-
-or_cond : (b c d : Bool) → c ≡ d → (b || c) ≡ cond b true d
-or_cond true c d e = refl
-or_cond false c d e = e
 
 behind : (p : Option ℕ) (ps : List (Option ℕ)) → Packed (p ∷ ps) → Packed ps
 behind p ps h = λ j k l e. h (suc j) (suc k) (omega arith) e
-
-any_empty : (ps : List (Option ℕ)) (y : ℕ) → ((k : ℕ) → get_or ps k None ≡ None) → list_any (λ p. option_eq nat_eq p (Some y)) ps ≡ false
-any_empty [] y h = refl
-any_empty (None ∷ ps) y h = any_empty ps y (λ k. h (suc k))
-any_empty (Some x ∷ ps) y h = let z = h 0 in cc
 
 numbers_empty : (ps : List (Option ℕ)) → ((k : ℕ) → get_or ps k None ≡ None) → numbers ps ≡ []
 numbers_empty [] h = refl
 numbers_empty (None ∷ ps) h = refl
 numbers_empty (Some x ∷ ps) h = let z = h 0 in cc
-
-pub any_listed : (ps : List (Option ℕ)) (y : ℕ) → Packed ps → list_any (λ p. option_eq nat_eq p (Some y)) ps ≡ listed (numbers ps) y
-any_listed [] y h = refl
-any_listed (None ∷ ps) y h = any_empty ps y (λ k. h 0 (suc k) (omega arith) refl)
-any_listed (Some x ∷ ps) y h = or_cond (nat_eq x y) _ _ (any_listed ps y (behind (Some x) ps h))
 
 pub numbers_long : (ps : List (Option ℕ)) → length (numbers ps) ≡ position_or_len is_none ps
 numbers_long [] = refl

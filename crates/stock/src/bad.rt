@@ -1,4 +1,5 @@
 // Lists of bad slots.
+ghost use Rattle.std.specs.Prelude.{ℕ, ◌≤◌, length};
 ghost use Rattle.stock.specs.Sizes.{Distinct};
 ghost use Rattle.stock.specs.Places.{numbers, Packed};
 
@@ -9,5 +10,6 @@ pub mod list;
 pub struct BadSlots {
     slots: [Option<u64>; 16],
     ghost packed: { Packed slots },
+    ghost few: { length (numbers slots) ≤ 16 },
     ghost once: { Distinct (numbers slots) },
 }

@@ -3,9 +3,26 @@ ghost use Rattle.std.specs.Prelude.{◌≡◌, [], position, is_none};
 ghost use Rattle.stock.specs.Refusals.{answered};
 ghost use Rattle.stock.specs.Sizes.{listed, list_fault, with_listed};
 ghost use Rattle.stock.specs.BadLists.{bad_list};
+ghost use Rattle.stock.specs.Places.{numbers};
 
 use crate::bad::BadSlots;
 use fault::shape::ShapeFault;
+
+// Whether a number stands in one of the places before the first empty one. Kept out of line, so that `has` is short enough to
+// be copied into its callers.
+#[inline(never)]
+fn stands_in(places: &[Option<u64>], slot: u64) -> bool
+    ensures { result ≡ listed (numbers places.now) slot }
+{
+    for place in places {
+        match place {
+            Some(x) if *x == slot => return true,
+            Some(_) => {}
+            None => return false,
+        }
+    }
+    false
+}
 
 impl BadSlots {
     // The empty list.
@@ -15,10 +32,11 @@ impl BadSlots {
         BadSlots { slots: [None; 16] }
     }
 
+    // Most lists are empty, and that is told by the first place alone.
     pub fn has(&self, slot: u64) -> bool
         ensures { result ≡ listed (bad_list self.now) slot }
     {
-        self.slots.contains(&Some(slot))
+        self.slots[0].is_some() && stands_in(&self.slots, slot)
     }
 
     // The first empty place.

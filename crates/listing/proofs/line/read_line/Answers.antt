@@ -26,16 +26,18 @@ returns-in_err-read_row-clause-answer c =
     let f = err_answers _ _ _ c.in_err-read_row.ensures.answer in
     rw (frame_stops _ c.args.low _ _ (ended_is _ feed) c.if-text-frame.false o.0 c.if-text-ne32.false _ f) (p.1 ∙ ap Err p.2)
 
-pub returns-then-address-low-clause-answer : goal.returns-then-address-low-clause-answer
-returns-then-address-low-clause-answer c =
+pub returns-in_err-check_above-clause-answer : goal.returns-in_err-check_above-clause-answer
+returns-in_err-check_above-clause-answer c =
     let feed : get_or c.args.line.now (length c.args.line.now - 1) 0 ≡ 10 = search rules in
     let o = ok_answers _ _ _ c.in_ok-read_address.ensures in
     let r = ok_answers _ _ _ c.in_ok-read_row.ensures.answer in
-    rw (low_stops _ c.args.low _ _ (ended_is _ feed) c.if-text-frame.false o.0 c.if-text-ne32.false r.0 _ (c.from-address.ensures ∙ o.1) c.if-address-low.true) refl
+    let p = err_from_is_err_and c.from_residual-in_err-check_above.result c.from_residual-in_err-check_above.ensures.1 in
+    let f = c.in_err-check_above.ensures in
+    rw (low_stops _ c.args.low _ _ (ended_is _ feed) c.if-text-frame.false o.0 c.if-text-ne32.false r.0 _ (c.from-address.ensures ∙ o.1) f.1) (p.1 ∙ ap Err (p.2 ∙ f.0))
 
 pub returns-clause-answer : goal.returns-clause-answer
 returns-clause-answer c =
     let feed : get_or c.args.line.now (length c.args.line.now - 1) 0 ≡ 10 = search rules in
     let o = ok_answers _ _ _ c.in_ok-read_address.ensures in
     let r = ok_answers _ _ _ c.in_ok-read_row.ensures.answer in
-    rw (nothing_stops _ c.args.low _ _ (ended_is _ feed) c.if-text-frame.false o.0 c.if-text-ne32.false r.0 _ (c.from-address.ensures ∙ o.1) c.if-address-low.false, ended_is _ feed) (ap Ok (c.from-address.ensures ∙ o.1))
+    rw (nothing_stops _ c.args.low _ _ (ended_is _ feed) c.if-text-frame.false o.0 c.if-text-ne32.false r.0 _ (c.from-address.ensures ∙ o.1) c.in_ok-check_above.ensures, ended_is _ feed) (ap Ok (c.from-address.ensures ∙ o.1))

@@ -1,4 +1,4 @@
-use Rattle.std.proofs.Common.{◌≡◌, ℕ, true, false, List, length, None, Some, Option, is_none, position, ltb, sym, ◌∙◌, arith, rules, lt-ltb}
+use Rattle.std.proofs.Common.{◌≡◌, ℕ, true, false, List, length, None, Some, Option, is_none, position, ltb, sym, ◌∙◌, arith, rules, lt-ltb, length-append}
 use Rattle.std.proofs.lemmas.Bool.{le-ltb}
 use Rattle.stock.specs.Sizes.{listed}
 use Rattle.stock.specs.Places.{numbers}
@@ -29,8 +29,10 @@ invariant_of-self c =
     let ps : List (Option ℕ) = c.args.self.now.slots in
     let n : listed (numbers ps) c.args.slot ≡ false = sym c.has.ensures ∙ c.if-has.false in
     let e : position is_none ps ≡ Some c.in_ok-free.free = search rules in
+    let r = room ps c.in_ok-free.free e in
     record {
       packed = packed_set ps c.in_ok-free.free c.args.slot c.args.self.now.packed e;
+      few = simp (numbers_set ps c.in_ok-free.free c.args.slot c.args.self.now.packed e, length-append) (omega arith);
       once = rw (numbers_set ps c.in_ok-free.free c.args.slot c.args.self.now.packed e) (distinct_push (numbers ps) c.args.slot c.args.self.now.once n);
     }
 
